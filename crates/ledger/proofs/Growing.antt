@@ -1,0 +1,205 @@
+-- The rule of an append to the running log.
+use Prim.Native.Nat.{ℕ, zero, suc, _+_, _-_, _*_, _/_, _%_, _≤_, _<_, min, max}
+use mathlib.Core.Path.{_≡_, refl, sym, ap, _∙_, subst}
+use mathlib.Core.Logic.{_⊎_, inl, inr}
+use mathlib.Core.Bool.{Bool, true, false, cond, not, _&&_, _||_}
+use mathlib.Core.List.{List, [], _∷_, _++_, map, reverse}
+use lib.ListN.{length, take, drop}
+use lib.Dec.{eqb, leb, ltb}
+use native.Mathlib.Omega.{arith}
+use Rattle.std.proofs.shelf.Ways.{tells}
+use Rattle.std.specs.Joined.{joined}
+use Rattle.std.specs.declared.option.Option.{Option}
+use Rattle.std.specs.declared.option.Option.the-variants.{None, Some}
+use Rattle.store.specs.declared.cause.Cause.{Cause}
+use Rattle.store.specs.declared.keys.Key.{Key}
+use Rattle.store.specs.declared.keys.Key.the-variants.{Hint, Target, Watermark}
+use Rattle.store.specs.Disk.{Blob, Blobs, Disk, View, find, numbers, change, synced, Op, Open, Append, Truncate, Sync, Remove, Put, DropKey, SyncKeys, done, Weakened, Counted, Cut, Does, Refuses, Made}
+use Rattle.store.specs.declared.keys.Keys.{Keys}
+use Rattle.std.proofs.shelf.Tests.{cases-eq, cases-lt, eqb-true}
+use native.Mathlib.Nat.{mul-le-mul-right, le-of-mul-le-mul-right}
+use Rattle.rules.specs.Rules.{Config, blobOf, aligned, persist}
+use Rattle.rules.specs.Calls.{Running, committing, appending}
+use Rattle.ledger.specs.Ledger.{Ledger, appended}
+use Rattle.ledger.proofs.Blobs.{count, find-change, find-change-same, find-change-other, found-listed}
+use Rattle.ledger.proofs.Standing.{first, room, blob-first, blob-is, first-room, first-apart, first-next, room-some, HintFree, HintStands, KeysStand, Standing, Stands, stands, Empty, Staged, Safe, Rows, moved}
+use Rattle.ledger.proofs.Done.{standing-sync, standing-put, standing-drop, standing-keys, standing-open, standing-append, standing-ahead, standing-kept}
+use Rattle.ledger.proofs.Power.{safe-weakened}
+use Rattle.ledger.proofs.Chain.{Chain, chain-append, chain-then, Ends, Closed, made-chain, plain}
+use lib.ListN.{length-take}
+use Rattle.std.proofs.shelf.Bits.{le-div, div-below}
+use native.Mathlib.Nat.{lt-div-mul-add, div-mul-le-self}
+use Rattle.std.proofs.shelf.Tests.{cases-bool, cond-true, cond-false, cond-both, eq-eqb, ne-eqb, lt-ltb, le-ltb, ltb-true, ltb-false, and-parts, and-right, and-left, and-from, or-right, not-from-true, not-from-false}
+use Rattle.store.specs.Disk.{cutTo, without}
+use Rattle.rules.specs.Rules.{firstIn}
+use Rattle.rules.specs.Open.{Opened, noEdge}
+use Rattle.store.specs.Disk.{insert, doneAll}
+use Rattle.rules.specs.Rules.{MAX}
+use Rattle.rules.specs.Calls.{keysFirst, same, has, from, upTo, isEmpty, anchored, goes, anchor, lastBlob, truncating}
+use Rattle.ledger.proofs.Blobs.{not-listed}
+use Rattle.ledger.proofs.Blobs.{find-without-other, find-insert-other, listed-find}
+use Rattle.ledger.proofs.Standing.{first-is, start-first, Held, Reached}
+use Rattle.ledger.proofs.Calculus.{rows-far, rows-kept, rows-kept-less}
+use Rattle.ledger.proofs.Done.{standing-truncate, standing-remove-top}
+use Rattle.ledger.proofs.Chain.{chain-stop}
+use Rattle.rules.specs.Calls.{upOneByOne}
+use Rattle.ledger.proofs.Blobs.{numbers-insert-top}
+use Rattle.ledger.proofs.Truncates.{insert-here}
+use Rattle.ledger.proofs.Publishes.{sync-rows}
+use Rattle.rules.specs.Calls.{openIf}
+use Rattle.ledger.proofs.Appends.{ahead, run-counted, tied-append, aligned-next}
+use Rattle.ledger.proofs.Prunes.{PruneStops, Pruned, remove-chain}
+use Rattle.ledger.proofs.Runs.{persist-chain, tied-persisted}
+use Rattle.std.proofs.shelf.Tests.{eqb-false}
+use native.Mathlib.Nat.{mul-add-mod-self-right, mod-self}
+use Rattle.ledger.proofs.Runs.{tied-sync, Tied, tied-paid, Inside, SafeFor, safe-closed, Persisted, persist-rows}
+use Rattle.ledger.proofs.Trims.{SafeTo}
+use Rattle.ledger.proofs.Appends.{tied-open}
+use Rattle.std.proofs.shelf.Lists.{append-nil}
+use native.Mathlib.Nat.{lt-of-mul-lt-mul-right, div-eq-of-lt-le, mul-le-mul-left}
+use Rattle.ledger.proofs.Rows.{from-low, has-in, has-above, from-row, from-above, upTo-all, upTo-row, upTo-next, reverse-more}
+use Rattle.rules.specs.Rules.{Plan, answer, refuse, ask, call, calls, refuseIf, ItemPruned, Layout}
+use Rattle.rules.specs.Calls.{truncate-rule, publish-rule, truncated}
+use Rattle.ledger.proofs.Walks.{Leads, leads-unless, leads-calls}
+use Rattle.ledger.proofs.Truncates.{Cut-to, truncate-chain, chain-end}
+use Rattle.ledger.proofs.Publishes.{Ran, ran-chain, raise-chain, in-line}
+use Rattle.ledger.proofs.Trimmeds.{Trim, KeptAll, safe-ahead, trimmed-append-chain, trimmed-sync-done, trimmed-prune-chain}
+use Rattle.ledger.proofs.Recovers.{Trim-as}
+use Rattle.ledger.proofs.Clears.{Cleared, clear-chain, one-found, stage-chain}
+use Rattle.ledger.proofs.Standing.{first-low}
+use Rattle.rules.specs.Rules.{SizeOverflow, clearing, staging}
+use Rattle.store.specs.Disk.{blank}
+use Rattle.rules.specs.Calls.{trimmed-append-rule, trimmed-sync-rule, trimmed-prune-rule, complete-rule, stage-rule, commit-rule, sync-rule}
+use Rattle.ledger.specs.Ledger.{entry, pruneTo, kept-to-end, Prune}
+use Rattle.std.proofs.shelf.Tests.{leb-true, leb-false, lt-leb}
+use Rattle.ledger.proofs.Runs.{commit-chain, sync-chain}
+use Rattle.ledger.proofs.Recovers.{Run-as}
+use Rattle.ledger.proofs.Opens.{Whole}
+use Rattle.ledger.proofs.Rests.{Ready, Shows}
+use Rattle.rules.specs.Calls.{prune-rule}
+use Rattle.ledger.proofs.Prunes.{prune-chain}
+use Rattle.ledger.proofs.Opens.{start-blob}
+use Rattle.ledger.proofs.Standing.{rows-apart}
+use Rattle.ledger.proofs.Recovers.{Cuttable}
+use Rattle.ledger.proofs.Readings.{Good, good}
+use Rattle.ledger.proofs.Follow.{Answered, Halted, follows-leads}
+use lib.ListN.{length-map}
+use Rattle.rules.specs.Rules.{EmptyAppend}
+use Rattle.rules.specs.Calls.{append-rule}
+use Rattle.rules.specs.Calls as calls-of
+use Rattle.ledger.proofs.Appends.{owedAfter, After, append-chain}
+
+-- the blob of the next position
+next-blob : (c : Config) (e : ℕ) → 0 < c .n → ((aligned c (e + 1) ≡ true) × ((e + 1) / c .n ≡ e / c .n + 1)) ⊎ ((aligned c (e + 1) ≡ false) × ((e + 1) / c .n ≡ e / c .n))
+next-blob c e np =
+    let lo = div-mul-le-self e (c .n) in
+    let hi = lt-div-mul-add {a = e} np in
+    elim (cases-bool (aligned c (e + 1))) [
+      | inl a ↦
+          let q = aligned-next (c .n) (e / c .n) (e + 1) (omega arith) (omega arith) (eqb-true ((e + 1) % c .n) 0 a) in
+          inl (a, div-eq-of-lt-le {k = e / c .n + 1} (c .n) (omega arith) (omega arith))
+      | inr a ↦
+          let ne : e + 1 ≡ e / c .n * c .n + c .n → ⊥ = λ j. eqb-false ((e + 1) % c .n) 0 a (ap (λ (k : ℕ). k % c .n) j ∙ (mul-add-mod-self-right (e / c .n) (c .n) (c .n) ∙ mod-self (c .n))) in
+          inr (a, div-eq-of-lt-le {k = e / c .n} (c .n) (omega arith) (omega arith))
+    ]
+
+-- what is owed, record by record, is what is owed by the blobs of the two ends
+pub owed-is : {A : Type 0} (c : Config) (np : 0 < c .n) (rs : List A) (e f : ℕ) (o : Option ℕ) → f ≡ e + length rs → owedAfter c e o rs ≡ cond (ltb (e / c .n) (f / c .n)) (Some (f / c .n - 1)) o
+owed-is c np [] e f o h =
+    sym (cond-false (ltb (e / c .n) (f / c .n)) (Some (f / c .n - 1)) o (le-ltb (e / c .n) (f / c .n) (let q : f / c .n ≡ e / c .n = ap (λ (j : ℕ). j / c .n) (omega arith) in omega arith)))
+owed-is c np (r ∷ rs) e f o h = elim (next-blob c e np) [
+  | inl a ↦
+      let q = a .1 in
+      cond-true (aligned c (e + 1)) (owedAfter c (e + 1) (Some (e / c .n)) rs) (owedAfter c (e + 1) o rs) (a .0)
+      ∙ (owed-is c np rs (e + 1) f (Some (e / c .n)) (omega arith)
+      ∙ (cond-both (ltb ((e + 1) / c .n) (f / c .n)) (Some (f / c .n - 1)) (Some (e / c .n)) (λ (x : Option ℕ). x ≡ Some (f / c .n - 1))
+      (λ u. refl)
+      (λ u.
+      let g = ltb-false ((e + 1) / c .n) (f / c .n) u in
+      let m = up in
+      ap {B = Option ℕ} Some (omega arith))
+      ∙ sym (cond-true (ltb (e / c .n) (f / c .n)) (Some (f / c .n - 1)) o (lt-ltb (e / c .n) (f / c .n) (let m = up in omega arith)))))
+  | inr a ↦
+      cond-false (aligned c (e + 1)) (owedAfter c (e + 1) (Some (e / c .n)) rs) (owedAfter c (e + 1) o rs) (a .0)
+      ∙ (owed-is c np rs (e + 1) f o (omega arith) ∙ ap (λ (j : ℕ). cond (ltb j (f / c .n)) (Some (f / c .n - 1)) o) (a .1))
+]
+  where
+    up : (e + 1) / c .n ≤ f / c .n
+    up = le-div ((e + 1) / c .n) f (c .n) np (let d = div-mul-le-self (e + 1) (c .n) in omega arith)
+
+module _ {R : Type 0} (c : Config) (enc : R → List ℕ) (zp : 0 < c .z) (ez : (r : R) → length (enc r) ≡ c .z) (l : Ledger R) (r : Running) (d : Disk) (t : Run-as c enc l r d) where
+  abbrev k : Running
+  k = record { start = l .start; end = l .end; owed = r .owed }
+
+  is : r ≡ k
+  is = let a = t .start in let b = t .end in λ i. record { start = a i; end = b i; owed = r .owed }
+
+  pub append-leads : (rs : List R) → 0 < length rs → l .end + length rs ≤ MAX → Leads (SafeFor c enc (appended l rs)) (λ x e. Run-as c enc (appended l rs) (x .0) e) (append-rule c r (map enc rs)) d
+  append-leads rs some most =
+      subst (λ (j : Running). Leads S Q (append-rule c j (map enc rs)) d) (sym is)
+      (leads-unless S Q (eqb (length (map enc rs)) 0) EmptyAppend _ d (ne-eqb (length (map enc rs)) 0 (λ z. omega (arith, lm)))
+      (leads-unless S Q (ltb MAX (l .end + length (map enc rs))) SizeOverflow _ d (le-ltb MAX (l .end + length (map enc rs)) (omega (arith, lm)))
+      (leads-calls S Q (appending c (l .end) (r .owed) [] (map enc rs)) last d
+      (chain-then S (After c enc zp ez (appended l rs) (owedAfter c (l .end) (r .owed) rs)) (λ e. Leads S Q last e) (appending c (l .end) (r .owed) [] (map enc rs)) d
+      (λ e q. record {
+        start = refl;
+        end = ap (λ (j : ℕ). l .end + j) lm;
+        lo = q .lo;
+        more = q .more;
+        tied = subst (λ (o : Option ℕ). Tied c enc (q .lo) (q .more) e (appended l rs) o) (owed-is c np rs (l .end) (l .end + length (map enc rs)) (r .owed) (omega (arith, lm))) (q .tied);
+        inside = q .inside;
+      })
+      (append-chain c enc zp ez rs (t .lo) (t .more) l d (r .owed) [] (l .end) [] (appended l rs) (t .tied) (let i = t .inside in omega arith) (omega arith) refl most refl)))))
+    where
+      lm : length (map enc rs) ≡ length rs
+      lm = length-map rs enc
+
+      np : 0 < c .n
+      np = let x = t .tied .stand .rows .low .from in let y = t .tied .stand .rows .low .below in omega arith
+
+      S : Disk → Type 0
+      S = SafeFor c enc (appended l rs)
+
+      Q : Running × ℕ → Disk → Type 0
+      Q x e = Run-as c enc (appended l rs) (x .0) e
+
+      end : ℕ
+      end = l .end + length (map enc rs)
+
+      last : Plan (Running × ℕ)
+      last = answer (record { start = l .start; end = end; owed = calls-of.owedAfter c k end }, end - 1)
+
+-- a running log reads all of its span
+pub run-good : {R : Type 0} (c : Config) (enc : R → List ℕ) (decodes : List ℕ → Option R) (ez : (r : R) → length (enc r) ≡ c .z) (back : (r : R) → decodes (enc r) ≡ Some r) (l : Ledger R) (r : Running) (v : View)
+    → v .up ≡ true → Run-as c enc l r (v .disk) → (p : ℕ) → l .start ≤ p → p < l .end → Good c enc decodes ez back (l .start) v (l .handed) p
+run-good {R} c enc decodes ez back l r v up k p h g = good c enc decodes ez back l v (l .end) p up (t .stand .rows) covers (let i = k .inside in omega arith) h g
+  where
+    hi : ℕ
+    hi = k .lo + k .more
+
+    t : Tied c enc (k .lo) (k .more) (v .disk) l (r .owed)
+    t = k .tied
+
+    covers : (b : ℕ) (x : Blob) (m : ℕ) → find (v .disk .blobs) b ≡ Some x → m ≤ room c (l .start) b → first c (l .start) b + m ≤ l .end → m * c .z ≤ x .sound
+    covers b x m f i j = elim (cases-lt b hi) [
+      | inl q ↦ let a = t .full b x f q in let u = mul-le-mul-right (c .z) i in omega arith
+      | inr q ↦
+          let a = found-listed (v .disk .blobs) (k .lo) (suc (k .more)) b x (t .stand .rows .listed) f in
+          let e : hi ≡ b = omega arith in
+          let y : find (v .disk .blobs) hi ≡ find (v .disk .blobs) b = ap (λ (n : ℕ). find (v .disk .blobs) n) e in
+          let same : t .tail ≡ x = cc (t .found, f, y) in
+          let en = t .ends in let sn = t .sound in let bn = t .bytes in
+          let fk : first c (l .start) hi ≡ first c (l .start) b = ap (λ (n : ℕ). first c (l .start) n) e in
+          let so : t .tail .sound ≡ x .sound = ap (λ (u : Blob). u .sound) same in
+          let mh : m ≤ t .have = omega arith in
+          let mz = mul-le-mul-right (c .z) mh in
+          omega arith
+    ]
+
+-- a plan whose answer is put another way
+pub leads-leaving : {A : Type 0} (S : Disk → Type 0) (Q : A → Disk → Type 0) (P : Rattle.ledger.specs.Runs.Log → Disk → Type 0) (f : A → Rattle.ledger.specs.Runs.Log) → ((a : A) (e : Disk) → Q a e → P (f a) e)
+    → (p : Plan A) (d : Disk) → Leads S Q p d → Leads S P (Rattle.ledger.specs.Runs.leaving f p) d
+leads-leaving S Q P f h (answer x) d k = h x d k
+leads-leaving S Q P f h (refuse x) d k = k
+leads-leaving S Q P f h (ask p) d k = (k .0, leads-leaving S Q P f h p d (k .1))
+leads-leaving S Q P f h (call o p) d k = (k .0, leads-leaving S Q P f h p (done o d) (k .1))

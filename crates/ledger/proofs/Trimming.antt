@@ -1,0 +1,227 @@
+-- The rules of the trimmed log and of a staged clear, each done or stopped anywhere.
+use Prim.Native.Nat.{ℕ, zero, suc, _+_, _-_, _*_, _/_, _%_, _≤_, _<_, min, max}
+use mathlib.Core.Path.{_≡_, refl, sym, ap, _∙_, subst}
+use mathlib.Core.Logic.{_⊎_, inl, inr}
+use mathlib.Core.Bool.{Bool, true, false, cond, not, _&&_, _||_}
+use mathlib.Core.List.{List, [], _∷_, _++_, map, reverse}
+use lib.ListN.{length, take, drop}
+use lib.Dec.{eqb, leb, ltb}
+use native.Mathlib.Omega.{arith}
+use Rattle.std.proofs.shelf.Ways.{tells}
+use Rattle.std.specs.Joined.{joined}
+use Rattle.std.specs.declared.option.Option.{Option}
+use Rattle.std.specs.declared.option.Option.the-variants.{None, Some}
+use Rattle.store.specs.declared.cause.Cause.{Cause}
+use Rattle.store.specs.declared.keys.Key.{Key}
+use Rattle.store.specs.declared.keys.Key.the-variants.{Hint, Target, Watermark}
+use Rattle.store.specs.Disk.{Blob, Blobs, Disk, View, find, numbers, change, synced, Op, Open, Append, Truncate, Sync, Remove, Put, DropKey, SyncKeys, done, Weakened, Counted, Cut, Does, Refuses, Made}
+use Rattle.store.specs.declared.keys.Keys.{Keys}
+use Rattle.std.proofs.shelf.Tests.{cases-eq, cases-lt, eqb-true}
+use native.Mathlib.Nat.{mul-le-mul-right, le-of-mul-le-mul-right}
+use Rattle.rules.specs.Rules.{Config, blobOf, aligned, persist}
+use Rattle.rules.specs.Calls.{Running, committing, appending}
+use Rattle.ledger.specs.Ledger.{Ledger, appended}
+use Rattle.ledger.proofs.Blobs.{count, find-change, find-change-same, find-change-other, found-listed}
+use Rattle.ledger.proofs.Standing.{first, room, blob-first, blob-is, first-room, first-apart, first-next, room-some, HintFree, HintStands, KeysStand, Standing, Stands, stands, Empty, Staged, Safe, Rows, moved}
+use Rattle.ledger.proofs.Done.{standing-sync, standing-put, standing-drop, standing-keys, standing-open, standing-append, standing-ahead, standing-kept}
+use Rattle.ledger.proofs.Power.{safe-weakened}
+use Rattle.ledger.proofs.Chain.{Chain, chain-append, chain-then, Ends, Closed, made-chain, plain}
+use lib.ListN.{length-take}
+use Rattle.std.proofs.shelf.Bits.{le-div, div-below}
+use native.Mathlib.Nat.{lt-div-mul-add, div-mul-le-self}
+use Rattle.std.proofs.shelf.Tests.{cases-bool, cond-true, cond-false, cond-both, eq-eqb, ne-eqb, lt-ltb, le-ltb, ltb-true, ltb-false, and-parts, and-right, and-left, and-from, or-right, not-from-true, not-from-false}
+use Rattle.store.specs.Disk.{cutTo, without}
+use Rattle.rules.specs.Rules.{firstIn}
+use Rattle.rules.specs.Open.{Opened, noEdge}
+use Rattle.store.specs.Disk.{insert, doneAll}
+use Rattle.rules.specs.Rules.{MAX}
+use Rattle.rules.specs.Calls.{keysFirst, same, has, from, upTo, isEmpty, anchored, goes, anchor, lastBlob, truncating}
+use Rattle.ledger.proofs.Blobs.{not-listed}
+use Rattle.ledger.proofs.Blobs.{find-without-other, find-insert-other, listed-find}
+use Rattle.ledger.proofs.Standing.{first-is, start-first, Held, Reached}
+use Rattle.ledger.proofs.Calculus.{rows-far, rows-kept, rows-kept-less}
+use Rattle.ledger.proofs.Done.{standing-truncate, standing-remove-top}
+use Rattle.ledger.proofs.Chain.{chain-stop}
+use Rattle.rules.specs.Calls.{upOneByOne}
+use Rattle.ledger.proofs.Blobs.{numbers-insert-top}
+use Rattle.ledger.proofs.Truncates.{insert-here}
+use Rattle.ledger.proofs.Publishes.{sync-rows}
+use Rattle.rules.specs.Calls.{openIf}
+use Rattle.ledger.proofs.Appends.{ahead, run-counted, tied-append, aligned-next}
+use Rattle.ledger.proofs.Prunes.{PruneStops, Pruned, remove-chain}
+use Rattle.ledger.proofs.Runs.{persist-chain, tied-persisted}
+use Rattle.std.proofs.shelf.Tests.{eqb-false}
+use native.Mathlib.Nat.{mul-add-mod-self-right, mod-self}
+use Rattle.ledger.proofs.Runs.{tied-sync, Tied, tied-paid, Inside, SafeFor, safe-closed, Persisted, persist-rows}
+use Rattle.ledger.proofs.Trims.{SafeTo}
+use Rattle.ledger.proofs.Appends.{tied-open}
+use Rattle.std.proofs.shelf.Lists.{append-nil}
+use native.Mathlib.Nat.{lt-of-mul-lt-mul-right, div-eq-of-lt-le, mul-le-mul-left}
+use Rattle.ledger.proofs.Rows.{from-low, has-in, has-above, from-row, from-above, upTo-all, upTo-row, upTo-next, reverse-more}
+use Rattle.rules.specs.Rules.{Plan, answer, refuse, ask, call, calls, refuseIf, ItemPruned, Layout}
+use Rattle.rules.specs.Calls.{truncate-rule, publish-rule, truncated}
+use Rattle.ledger.proofs.Walks.{Leads, leads-unless, leads-calls}
+use Rattle.ledger.proofs.Truncates.{Cut-to, truncate-chain, chain-end}
+use Rattle.ledger.proofs.Publishes.{Ran, ran-chain, raise-chain, in-line}
+use Rattle.ledger.proofs.Trimmeds.{Trim, KeptAll, safe-ahead, trimmed-append-chain, trimmed-sync-done, trimmed-prune-chain}
+use Rattle.ledger.proofs.Recovers.{Trim-as}
+use Rattle.ledger.proofs.Clears.{Cleared, clear-chain, one-found, stage-chain}
+use Rattle.ledger.proofs.Standing.{first-low}
+use Rattle.rules.specs.Rules.{SizeOverflow, clearing, staging}
+use Rattle.store.specs.Disk.{blank}
+use Rattle.rules.specs.Calls.{trimmed-append-rule, trimmed-sync-rule, trimmed-prune-rule, complete-rule, stage-rule, commit-rule, sync-rule}
+use Rattle.ledger.specs.Ledger.{entry, pruneTo, kept-to-end, Prune}
+use Rattle.std.proofs.shelf.Tests.{leb-true, leb-false, lt-leb}
+use Rattle.ledger.proofs.Runs.{commit-chain, sync-chain}
+use Rattle.ledger.proofs.Recovers.{Run-as}
+use Rattle.ledger.proofs.Opens.{Whole}
+use Rattle.ledger.proofs.Rests.{Ready, Shows}
+
+module _ {R : Type 0} (c : Config) (enc : R → List ℕ) (zp : 0 < c .z) (ez : (r : R) → length (enc r) ≡ c .z) (l : Ledger R) (o : Opened) (d : Disk) (t : Trim-as c enc l o d) where
+  abbrev k : Opened
+  k = record { start = l .start; end = l .end; mark = o .mark; bounded = o .bounded; edge = noEdge }
+
+  is : o ≡ k
+  is = let a = t .start in let b = t .end in let e = t .edge in λ i. record { start = a i; end = b i; mark = o .mark; bounded = o .bounded; edge = e i }
+
+  safe-now : SafeFor c enc l d
+  safe-now = inl (stands c enc d l (t .trim .tied .stand))
+
+  pub trimmed-append-leads : (r : R) → l .end + 1 ≤ MAX → Leads (SafeFor c enc (appended l (r ∷ []))) (Trim-as c enc (appended l (r ∷ []))) (trimmed-append-rule c d o (enc r)) d
+  trimmed-append-leads r most =
+      subst (λ (j : Opened). Leads S Q (trimmed-append-rule c d j (enc r)) d) (sym is)
+      (subst (λ (bs : List ℕ). Leads S Q (trimmed-append-rule c d k bs) d) (append-nil (enc r))
+      (leads-unless S Q (leb MAX (l .end)) SizeOverflow _ d (lt-leb MAX (l .end) (omega arith)) (
+        safe-ahead c enc zp ez l r most d (t .trim .tied),
+        leads-calls S Q ops last d
+            (chain-then S (Trim c enc m) (λ e. Leads S Q last e) ops d
+            (λ e q. record { trim = q; start = refl; end = refl; mark = t .mark; edge = refl })
+            (trimmed-append-chain c enc zp ez l r most d (t .trim))),
+      )))
+    where
+      m : Ledger R
+      m = appended l (r ∷ [])
+
+      S : Disk → Type 0
+      S = SafeFor c enc m
+
+      Q : Opened → Disk → Type 0
+      Q = Trim-as c enc m
+
+      last : Plan Opened
+      last = answer (record { start = l .start; end = l .end + 1; mark = o .mark; bounded = o .bounded; edge = noEdge })
+
+      ops : List Op
+      ops = openIf (has (blobOf c (l .end)) (numbers (d .blobs))) (blobOf c (l .end)) ++ (Append (blobOf c (l .end)) (joined enc (r ∷ [])) ∷ cond (aligned c (l .end + 1)) (Sync (blobOf c (l .end)) ∷ []) [])
+
+  pub trimmed-sync-leads : Leads (SafeFor c enc l) (Trim-as c enc (KeptAll c enc zp ez l)) (trimmed-sync-rule c d o) d
+  trimmed-sync-leads =
+      subst (λ (j : Opened). Leads (SafeFor c enc l) Q (trimmed-sync-rule c d j) d) (sym is) (
+        safe-now,
+        leads-calls (SafeFor c enc l) Q ops last d
+            (chain-then (SafeFor c enc l) (Trim c enc (KeptAll c enc zp ez l)) (λ e. Leads (SafeFor c enc l) Q last e) ops d
+            (λ e q. record { trim = q; start = refl; end = refl; mark = omega arith; edge = refl })
+            (trimmed-sync-done c enc zp ez l d (t .trim))),
+      )
+    where
+      Q : Opened → Disk → Type 0
+      Q = Trim-as c enc (KeptAll c enc zp ez l)
+
+      last : Plan Opened
+      last = answer (record { start = l .start; end = l .end; mark = l .end; bounded = o .bounded; edge = noEdge })
+
+      ops : List Op
+      ops = map Sync (numbers (d .blobs)) ++ persist c (l .start) (l .end)
+
+  pub trimmed-prune-leads : (p : ℕ) → Leads (PruneStops c enc l (min p (l .end) / c .n * c .n)) (λ x e. Trim-as c enc (entry c l (Prune p)) (x .0) e) (trimmed-prune-rule c d o p) d
+  trimmed-prune-leads p =
+      subst (λ (j : Opened). Leads S Q (trimmed-prune-rule c d j p) d) (sym is)
+      (cond-both (leb (b * c .n) (l .start)) (answer (k, false)) (calls ops last) (λ (q : Plan (Opened × Bool)). Leads S Q q d)
+      (λ e.
+      let a = leb-true (b * c .n) (l .start) e in
+      subst (λ (m : Ledger R). Trim-as c enc m k d) (sym (cond-false (ltb (l .start) (b * c .n)) (moved l (b * c .n) (l .end) (l .end) (l .far)) l (le-ltb (l .start) (b * c .n) a)))
+      (record { trim = t .trim; start = refl; end = refl; mark = t .mark; edge = refl }))
+      (λ e.
+      let a = leb-false (b * c .n) (l .start) e in
+      let u = div-mul-le-self (min p (l .end)) (c .n) in
+      let mk = t .mark in
+      let kf = t .trim .tied .stand .rows .kept-far in
+      let wh = t .trim .tied .whole in
+      leads-calls S Q ops last d
+      (chain-then S (Trim c enc (moved l (b * c .n) (l .end) (l .end) (l .far))) (λ f. Leads S Q last f) ops d
+      (λ f q. subst (λ (m : Ledger R). Trim-as c enc m k′ f) (sym (cond-true (ltb (l .start) (b * c .n)) (moved l (b * c .n) (l .end) (l .end) (l .far)) l (lt-ltb (l .start) (b * c .n) a)))
+      (record { trim = q; start = refl; end = refl; mark = omega arith; edge = refl }))
+      (trimmed-prune-chain c enc zp ez l d b (t .trim) a (omega arith)))))
+    where
+      b : ℕ
+      b = blobOf c (min p (l .end))
+
+      S : Disk → Type 0
+      S = PruneStops c enc l (b * c .n)
+
+      Q : Opened × Bool → Disk → Type 0
+      Q x e = Trim-as c enc (entry c l (Prune p)) (x .0) e
+
+      k′ : Opened
+      k′ = record { start = b * c .n; end = l .end; mark = o .mark; bounded = o .bounded; edge = noEdge }
+
+      last : Plan (Opened × Bool)
+      last = answer (k′, true)
+
+      ops : List Op
+      ops = Open b ∷ (map Sync (numbers (insert b (d .blobs))) ++ map Remove (upTo b (numbers (d .blobs))))
+
+-- a staged clear, carried out
+module _ {R : Type 0} (c : Config) (enc : R → List ℕ) (np : 0 < c .n) (zp : 0 < c .z) where
+  cleared-trim : (l : Ledger R) (t : ℕ) (e : Disk) → l .start ≡ t → l .end ≡ t → l .far ≡ t → Cleared c enc np zp l t e → Trim c enc l e
+  cleared-trim l t e ls le lf q = record {
+    lo = b;
+    more = 0;
+    tied = td;
+    within = let z : (b + 0) * c .n ≡ b * c .n = ap (λ (j : ℕ). j * c .n) (omega arith) in let u = div-mul-le-self t (c .n) in omega arith;
+    sealed = λ f v g. let o = one-found b (b + 0) v (subst (λ (bs : Blobs). find bs (b + 0) ≡ Some v) (q .blobs) g) in omega arith;
+  }
+    where
+      b : ℕ
+      b = t / c .n
+
+      td : Tied c enc b 0 e l None
+      td = record {
+        stand = q .stand;
+        whole = omega arith;
+        have = 0;
+        ends = let a = first-low c (l .start) b (q .stand .rows .low) in let z : first c (l .start) (b + 0) ≡ first c (l .start) b = ap (λ (j : ℕ). first c (l .start) j) (omega arith) in omega arith;
+        some-room = omega arith;
+        tail = blank;
+        found = ap (λ (bs : Blobs). find bs (b + 0)) (q .blobs) ∙ cond-true (eqb b (b + 0)) (Some blank) None (eq-eqb b (b + 0) (omega arith));
+        sound = refl;
+        bytes = omega arith;
+        full = λ i x f h. absurd (let o = one-found b i x (subst (λ (bs : Blobs). find bs i ≡ Some x) (q .blobs) f) in omega arith);
+        safe = λ i x f h. absurd (let o = one-found b i x (subst (λ (bs : Blobs). find bs i ≡ Some x) (q .blobs) f) in omega arith);
+        owed-below = λ i f. let z : _≡_ {A = ℕ} 0 1 = cc in absurd (omega arith);
+        now-saved = sym (q .saved);
+      }
+
+  pub complete-leads : (l : Ledger R) (t : ℕ) (d : Disk) (w : Staged d l) → w .goal ≡ t → Leads (SafeFor c enc l) (Trim-as c enc l) (complete-rule c d t) d
+  complete-leads l t d w e =
+      let ls : l .start ≡ t = w .at-start ∙ e in
+      let le : l .end ≡ t = w .at-end ∙ e in
+      let lk : l .kept ≡ t = w .at-kept ∙ e in
+      let lf : l .far ≡ t = w .at-far ∙ e in
+      let last : Plan Opened = answer (record { start = t; end = t; mark = t; bounded = false; edge = noEdge }) in (
+        inr (inr w),
+        leads-calls (SafeFor c enc l) (Trim-as c enc l) (clearing c t (numbers (d .blobs))) last d
+            (clear-chain c enc np zp l t ls lk lf (let m = w .most in omega arith) (λ f. Leads (SafeFor c enc l) (Trim-as c enc l) last f)
+            (λ f q. record { trim = cleared-trim l t f ls le lf q; start = sym ls; end = sym le; mark = omega arith; edge = refl }) d w),
+      )
+
+  pub stage-leads : (l : Ledger R) (t : ℕ) (d : Disk) → t < MAX → Safe c enc d l
+      → Leads (λ e. Safe c enc e l ⊎ Safe c enc e (moved l t t t t)) (λ u e. Staged e (moved l t t t t) × (e .present ≡ e .saved)) (stage-rule d t) d
+  stage-leads l t d h w =
+      leads-unless S Q (leb MAX t) SizeOverflow _ d (lt-leb MAX t h) (inl w, leads-calls S Q (staging (d .present) t) (answer tt) d (stage-chain c enc np zp l t d (omega arith) w))
+    where
+      S : Disk → Type 0
+      S e = Safe c enc e l ⊎ Safe c enc e (moved l t t t t)
+
+      Q : Unit {0} → Disk → Type 0
+      Q u e = Staged e (moved l t t t t) × (e .present ≡ e .saved)
