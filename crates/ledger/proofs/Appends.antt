@@ -21,11 +21,11 @@ use native.Mathlib.Nat.{mul-le-mul-right, le-of-mul-le-mul-right}
 use Rattle.rules.specs.Rules.{MAX, Config, blobOf, aligned, persist}
 use Rattle.rules.specs.Calls.{Running, committing, appending}
 use Rattle.ledger.specs.Ledger.{Ledger, appended}
-use Rattle.ledger.proofs.Blobs.{count, find-change, find-change-same, find-change-other, found-listed}
+use Rattle.ledger.proofs.Blobs.{count, find-change, find-change-same, find-change-other, found-listed, listed-find}
 use Rattle.ledger.proofs.Standing.{first, room, blob-first, blob-is, first-room, first-apart, first-next, room-some, HintFree, HintStands, KeysStand, Standing, Stands, stands, Empty, Staged, Safe, Rows, moved}
 use Rattle.ledger.proofs.Done.{standing-sync, standing-put, standing-drop, standing-keys, standing-open, standing-append, standing-ahead, standing-kept}
 use Rattle.ledger.proofs.Power.{safe-weakened}
-use Rattle.ledger.proofs.Chain.{Chain, chain-append, chain-then, Ends, Closed, made-chain, plain}
+use Rattle.ledger.proofs.Chain.{Chain, Step, Found, chain-append, chain-then, Closed, plain}
 use mathlib.Core.Path.{fun-ext}
 use Rattle.std.proofs.shelf.Lists.{take-all, append-nil, append-assoc, length-append, joined-more}
 use Rattle.std.proofs.shelf.Tests.{eqb-false}
@@ -136,7 +136,7 @@ module _ {R : Type 0} (c : Config) (enc : R → List ℕ) (zp : 0 < c .z) (ez : 
         | inr u ↦ inr u
       ]
     ];
-    owed-below = λ k g. let i : t ≡ k = cc in omega arith;
+    owed-below = λ k g. let i : t ≡ k = cc in (omega arith, omega arith);
     now-saved = r .now-saved;
   }
     where
@@ -182,10 +182,13 @@ module _ {R : Type 0} (c : Config) (enc : R → List ℕ) (zp : 0 < c .z) (ez : 
   -- an append of a whole run, of which more records follow
   pub run-counted : {lo more : ℕ} (l m : Ledger R) (hs rs : List R) (d : Disk) (o : Option ℕ) (b : ℕ) (r : Tied c enc lo more d l o)
       → b ≡ lo + more → l .end + length hs ≤ (lo + more) * c .n + c .n → m .far ≤ MAX → appended l (hs ++ rs) ≡ m
-      → (e : Disk) → Counted (Append b (joined enc hs)) d e → Safe c enc e m
-  run-counted l m hs rs d o b r t space most g e (inl i) = rw i (ahead l m d (hs ++ rs) (r .stand) (let a = r .whole in omega arith) most g)
-  run-counted l m hs rs d o b r t space most g e (inr (k, i)) =
-      rw i (ahead (appended l hs) m (done (Append b (take k (joined enc hs))) d) rs (stand-appended l d o b k hs r t space (let f : l .end + length (hs ++ rs) ≡ m .far = ap (λ (k : Ledger R). k .far) g in omega (arith, length-append hs rs))) (omega arith) most (appended-append l hs rs ∙ g))
+      → Step (SafeFor c enc m) (Append b (joined enc hs)) d
+  run-counted {lo} {more} l m hs rs d o b r t space most g = ((r .tail, ap (λ (j : ℕ). find (d .blobs) j) t ∙ r .found), counts)
+    where
+      counts : (e : Disk) → Counted (Append b (joined enc hs)) d e → Safe c enc e m
+      counts e (inl i) = rw i (ahead l m d (hs ++ rs) (r .stand) (let a = r .whole in omega arith) most g)
+      counts e (inr (k, i)) =
+          rw i (ahead (appended l hs) m (done (Append b (take k (joined enc hs))) d) rs (stand-appended l d o b k hs r t space (let f : l .end + length (hs ++ rs) ≡ m .far = ap (λ (k : Ledger R). k .far) g in omega (arith, length-append hs rs))) (omega arith) most (appended-append l hs rs ∙ g))
 
   some-bytes : (h : R) (hs : List R) → 0 < length (joined enc (h ∷ hs))
   some-bytes h hs = let a = ez h in omega (arith, length-append (enc h) (joined enc hs))
@@ -228,7 +231,7 @@ aligned-next n b q h g e =
 
 module _ {R : Type 0} (c : Config) (enc : R → List ℕ) (zp : 0 < c .z) (ez : (r : R) → length (enc r) ≡ c .z) where
   -- the facts of one record more: hs are held back, r comes next
-  record Step (lo more : ℕ) (l : Ledger R) (hs : List R) (r : R) (rs : List R) (e : ℕ) (held : List ℕ) (m : Ledger R) : Type 0 where
+  record Next (lo more : ℕ) (l : Ledger R) (hs : List R) (r : R) (rs : List R) (e : ℕ) (held : List ℕ) (m : Ledger R) : Type 0 where
     pub here : blobOf c e ≡ lo + more
     pub bytes : held ++ enc r ≡ joined enc (hs ++ r ∷ [])
     pub size : length (hs ++ r ∷ []) ≡ length hs + 1
@@ -238,7 +241,7 @@ module _ {R : Type 0} (c : Config) (enc : R → List ℕ) (zp : 0 < c .z) (ez : 
     pub more-next : aligned c (e + 1) ≡ false → e + 1 < (lo + more) * c .n + c .n
 
   step : {lo more : ℕ} (l : Ledger R) (d : Disk) (o : Option ℕ) (hs : List R) (r : R) (rs : List R) (e : ℕ) (held : List ℕ) (m : Ledger R) → Tied c enc lo more d l o
-      → l .end + length hs < (lo + more) * c .n + c .n → e ≡ l .end + length hs → held ≡ joined enc hs → appended l (hs ++ (r ∷ rs)) ≡ m → Step lo more l hs r rs e held m
+      → l .end + length hs < (lo + more) * c .n + c .n → e ≡ l .end + length hs → held ≡ joined enc hs → appended l (hs ++ (r ∷ rs)) ≡ m → Next lo more l hs r rs e held m
   step {lo} {more} l d o hs r rs e held m t space at is g =
       let a = first-room c (l .start) lo (t .stand .rows .low) (lo + more) (omega arith) in
       let q = t .ends in
@@ -311,7 +314,7 @@ module _ {R : Type 0} (c : Config) (enc : R → List ℕ) (zp : 0 < c .z) (ez : 
             subst (λ (bs : List ℕ). Chain (SafeFor c enc m) (After c enc zp ez m (owedAfter c (e + 1) (Some (blobOf c e)) rs)) (Append (blobOf c e) bs ∷ (Sync w ∷ (Open (blobOf c e + 1) ∷ os))) d) (sym (s .bytes)) (
               run-counted c enc zp ez l m run rs d (Some w) (blobOf c e) t (s .here) (s .space) most (s .goes),
               (
-                plain (SafeFor c enc m) (Sync w) d1 tt (ahead c enc zp ez k m d1 rs (t1 .stand) (omega arith) most p) (ahead c enc zp ez k m d2 rs (t2 .stand) (omega arith) most p),
+                plain (SafeFor c enc m) (Sync w) d1 (let u = t1 .owed-below w refl in listed-find (d1 .blobs) lo (suc more) w (t1 .stand .rows .listed) (omega arith) (omega arith)) (ahead c enc zp ez k m d1 rs (t1 .stand) (omega arith) most p) (ahead c enc zp ez k m d2 rs (t2 .stand) (omega arith) most p),
                 seal-chain c enc zp ez k m rs d2 (blobOf c e) os (After c enc zp ez m (owedAfter c (e + 1) (Some (blobOf c e)) rs)) t2 (s .here) (omega arith) most p
                     (append-chain rs lo (suc more) k (done (Open (blobOf c e + 1)) d2) (Some (blobOf c e)) [] (e + 1) [] m t3 (omega arith) (omega arith) refl most p),
               ),
@@ -320,11 +323,3 @@ module _ {R : Type 0} (c : Config) (enc : R → List ℕ) (zp : 0 < c .z) (ez : 
             let y = s .more-next b in
             append-chain rs lo more l d (Some w) run (e + 1) (held ++ enc r) m t (omega arith) (omega arith) (s .bytes) most (s .goes)
       ]) refl
-
-  -- an append from a running log: done, it has all the records; stopped anywhere, the disk is safe for the ledger that has them all handed in
-  pub appends : {lo more : ℕ} (l : Ledger R) (v w : View) (o : Option ℕ) (rs : List R) (res : Option (Op × Cause)) → Tied c enc lo more (v .disk) l o → Inside c lo more l → l .end + length rs ≤ MAX
-      → Made (appending c (l .end) o [] (map enc rs)) v res w
-      → Ends (SafeFor c enc (appended l rs)) (After c enc zp ez (appended l rs) (owedAfter c (l .end) o rs)) res w
-  appends {lo} {more} l v w o rs res t i most k =
-      made-chain (SafeFor c enc (appended l rs)) (After c enc zp ez (appended l rs) (owedAfter c (l .end) o rs)) (safe-closed c enc (appended l rs)) (appending c (l .end) o [] (map enc rs)) v w res
-      (append-chain rs lo more l (v .disk) o [] (l .end) [] (appended l rs) t (omega arith) (omega arith) refl most refl) k

@@ -17,10 +17,28 @@ use Rattle.store.specs.declared.keys.Key.the-variants.{Hint, Target, Watermark}
 use Rattle.store.specs.Disk.{Blob, Blobs, Disk, View, find, numbers, change, synced, Op, Open, Append, Truncate, Sync, Remove, Put, DropKey, SyncKeys, done, Weakened, Counted, Cut, Does, Refuses, Made}
 use Rattle.store.specs.declared.keys.Keys.{Keys}
 
+abbrev pub Found : Blobs → ℕ → Type 0
+Found bs b = (x : Blob) × (find bs b ≡ Some x)
+
+-- a call that is refused for want of room at most
+abbrev pub Apt : Op → Disk → Type 0
+Apt (Open b) d = Unit {0}
+Apt (Append b bs) d = Found (d .blobs) b
+Apt (Truncate b n) d = (x : Blob) × (find (d .blobs) b ≡ Some x) × (n ≤ length (x .bytes))
+Apt (Sync b) d = Found (d .blobs) b
+Apt (Remove b) d = Found (d .blobs) b
+Apt (Put k n) d = Unit {0}
+Apt (DropKey k) d = Unit {0}
+Apt SyncKeys d = Unit {0}
+
+-- a call at d: it is apt, and whatever it may count as is in S
+abbrev pub Step : (Disk → Type 0) → Op → Disk → Type 0
+Step S o d = Apt o d × ((e : Disk) → Counted o d e → S e)
+
 -- at each call, whatever it may count as is in S; after the last, Q
 abbrev pub Chain : (S Q : Disk → Type 0) → List Op → Disk → Type 0
 Chain S Q [] d = Q d
-Chain S Q (o ∷ os) d = ((e : Disk) → Counted o d e → S e) × Chain S Q os (done o d)
+Chain S Q (o ∷ os) d = Step S o d × Chain S Q os (done o d)
 
 pub chain-append : (S Q : Disk → Type 0) (xs ys : List Op) (d : Disk) → Chain S (λ e. Chain S Q ys e) xs d → Chain S Q (xs ++ ys) d
 chain-append S Q [] ys d k = k
@@ -34,10 +52,7 @@ chain-then S Q P (x ∷ xs) d f k = (k .0, chain-then S Q P xs (done x d) f (k .
 -- and what is stopped to a weaker one
 pub chain-stop : (S T Q : Disk → Type 0) (xs : List Op) (d : Disk) → ((e : Disk) → S e → T e) → Chain S Q xs d → Chain T Q xs d
 chain-stop S T Q [] d f k = k
-chain-stop S T Q (x ∷ xs) d f k = (λ e h. f e (k .0 e h), chain-stop S T Q xs (done x d) f (k .1))
-
-pub record Ends (S Q : Disk → Type 0) (r : Option (Op × Cause)) (w : View) : Type 0 where
-  pub ends : ((r ≡ None) × Q (w .disk)) ⊎ ((o : Op) × (c : Cause) × (r ≡ Some (o, c)) × S (w .disk))
+chain-stop S T Q (x ∷ xs) d f k = ((k .0 .0, λ e h. f e (k .0 .1 e h)), chain-stop S T Q xs (done x d) f (k .1))
 
 abbrev pub Closed : (Disk → Type 0) → Type 0
 Closed S = (d e : Disk) → S d → Weakened (d .blobs) (e .blobs) → e .saved ≡ d .saved → S e
@@ -52,37 +67,27 @@ not-made (Put k n) d = inl refl
 not-made (DropKey k) d = inl refl
 not-made SyncKeys d = inl refl
 
-pub made-chain : (S Q : Disk → Type 0) → Closed S → (os : List Op) (v w : View) (r : Option (Op × Cause)) → Chain S Q os (v .disk) → Made os v r w → Ends S Q r w
-made-chain S Q cl [] v w r k m = record { ends = inl (m .0, subst (λ (u : View). Q (u .disk)) (sym (m .1)) k) }
-made-chain S Q cl (o ∷ os) v w r k (inl (u, does, m)) = made-chain S Q cl os u w r (subst (λ (d : Disk). Chain S Q os d) (sym (does .2)) (k .1)) m
-made-chain S Q cl (o ∷ os) v w r k (inr (c, e, inl (p, q))) = record { ends = inr (o, c, e, subst (λ (u : View). S (u .disk)) (sym q) (k .0 (v .disk) (not-made o (v .disk)))) }
-made-chain S Q cl (o ∷ os) v w r k (inr (c, e, inr (p, q, cut))) =
-    record { ends = inr (o, c, e, cl (cut .middle) (w .disk) (k .0 (cut .middle) (cut .counted)) (cut .weakened) (cut .saved)) }
-
 -- a call that is no append counts as not made or as made
-abbrev pub Plain : Op → Type 0
-Plain (Append b bs) = ⊥
-Plain (Open b) = Unit {0}
-Plain (Truncate b n) = Unit {0}
-Plain (Sync b) = Unit {0}
-Plain (Remove b) = Unit {0}
-Plain (Put k n) = Unit {0}
-Plain (DropKey k) = Unit {0}
-Plain SyncKeys = Unit {0}
+abbrev pub Plain : Op → Disk → Type 0
+Plain (Append b bs) d = ⊥
+Plain (Open b) d = Apt (Open b) d
+Plain (Truncate b n) d = Apt (Truncate b n) d
+Plain (Sync b) d = Apt (Sync b) d
+Plain (Remove b) d = Apt (Remove b) d
+Plain (Put k n) d = Apt (Put k n) d
+Plain (DropKey k) d = Apt (DropKey k) d
+Plain SyncKeys d = Apt SyncKeys d
 
-pub plain : (S : Disk → Type 0) (o : Op) (d : Disk) → Plain o → S d → S (done o d) → (e : Disk) → Counted o d e → S e
-plain S (Append b bs) d n p q e k = elim n [ ]
-plain S (Open b) d n p q e (inl i) = rw i p
-plain S (Open b) d n p q e (inr i) = rw i q
-plain S (Truncate b m) d n p q e (inl i) = rw i p
-plain S (Truncate b m) d n p q e (inr i) = rw i q
-plain S (Sync b) d n p q e (inl i) = rw i p
-plain S (Sync b) d n p q e (inr i) = rw i q
-plain S (Remove b) d n p q e (inl i) = rw i p
-plain S (Remove b) d n p q e (inr i) = rw i q
-plain S (Put k m) d n p q e (inl i) = rw i p
-plain S (Put k m) d n p q e (inr i) = rw i q
-plain S (DropKey k) d n p q e (inl i) = rw i p
-plain S (DropKey k) d n p q e (inr i) = rw i q
-plain S SyncKeys d n p q e (inl i) = rw i p
-plain S SyncKeys d n p q e (inr i) = rw i q
+either : (S : Disk → Type 0) (d f : Disk) → S d → S f → (e : Disk) → (e ≡ d) ⊎ (e ≡ f) → S e
+either S d f p q e (inl i) = rw i p
+either S d f p q e (inr i) = rw i q
+
+pub plain : (S : Disk → Type 0) (o : Op) (d : Disk) → Plain o d → S d → S (done o d) → Step S o d
+plain S (Append b bs) d a p q = elim a [ ]
+plain S (Open b) d a p q = (a, either S d (done (Open b) d) p q)
+plain S (Truncate b m) d a p q = (a, either S d (done (Truncate b m) d) p q)
+plain S (Sync b) d a p q = (a, either S d (done (Sync b) d) p q)
+plain S (Remove b) d a p q = (a, either S d (done (Remove b) d) p q)
+plain S (Put k m) d a p q = (a, either S d (done (Put k m) d) p q)
+plain S (DropKey k) d a p q = (a, either S d (done (DropKey k) d) p q)
+plain S SyncKeys d a p q = (a, either S d (done SyncKeys d) p q)

@@ -25,7 +25,7 @@ use Rattle.ledger.proofs.Blobs.{count, find-change, find-change-same, find-cha
 use Rattle.ledger.proofs.Standing.{first, room, blob-first, blob-is, first-room, first-apart, first-next, room-some, HintFree, HintStands, KeysStand, Standing, Stands, stands, Empty, Staged, Safe, Rows, moved}
 use Rattle.ledger.proofs.Done.{standing-sync, standing-put, standing-drop, standing-keys, standing-open, standing-append, standing-ahead, standing-kept}
 use Rattle.ledger.proofs.Power.{safe-weakened}
-use Rattle.ledger.proofs.Chain.{Chain, chain-append, chain-then, Ends, Closed, made-chain, plain}
+use Rattle.ledger.proofs.Chain.{Chain, Found, chain-append, chain-then, Closed, plain}
 use native.Mathlib.Nat.{lt-div-mul-add, div-mul-le-self}
 use Rattle.store.specs.Disk.{without, insert, blank, keyed}
 use Rattle.rules.specs.Rules.{MAX, staging, clearing, isAbove}
@@ -124,7 +124,7 @@ module _ {R : Type 0} (c : Config) (enc : R → List ℕ) (np : 0 < c .n) (zp : 
     clear-from (x ∷ xs) d e w =
         let d1 : Disk = done (Remove (x .0)) d in
         let w1 : Staged d1 l = staged-same l d d1 refl w in (
-          plain (SafeFor c enc l) (Remove (x .0)) d tt (inr (inr w)) (inr (inr w1)),
+          plain (SafeFor c enc l) (Remove (x .0)) d (x .1, ap (λ (bs : Blobs). find bs (x .0)) e ∙ cond-true (eqb (x .0) (x .0)) (Some (x .1)) (find xs (x .0)) (eq-eqb (x .0) (x .0) refl)) (inr (inr w)) (inr (inr w1)),
           clear-from xs d1 (ap (λ (bs : Blobs). without (x .0) bs) e ∙ without-first x xs) w1,
         )
 

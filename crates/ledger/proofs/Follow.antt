@@ -8,10 +8,42 @@ use native.Mathlib.Omega.{arith}
 use Rattle.std.specs.declared.option.Option.{Option}
 use Rattle.std.specs.declared.option.Option.the-variants.{None, Some}
 use Rattle.store.specs.declared.cause.Cause.{Cause}
-use Rattle.store.specs.Disk.{Disk, View, Op, Does, Refuses, Made, done, Counted}
+use Rattle.store.specs.declared.cause.Cause.the-variants.{Power, Range, NoRoom}
+use Rattle.std.specs.Options.{isSome}
+use Rattle.std.proofs.shelf.Tests.{cases-bool, cond-true, cond-false, le-ltb}
+use lib.ListN.{length}
+use lib.Dec.{leb, ltb}
+use Rattle.store.specs.Disk.{Blob, Disk, View, find, Op, Open, Append, Truncate, Sync, Remove, Put, DropKey, SyncKeys, Does, Refuses, refusesUp, atBlob, causeIf, Made, done, Counted}
+use Rattle.ledger.proofs.Blobs.{never}
 use Rattle.rules.specs.Rules.{Plan, answer, refuse, ask, call, Step, Outcome, answered, refused, stopped, Follows}
-use Rattle.ledger.proofs.Chain.{Closed, not-made}
+use Rattle.ledger.proofs.Chain.{Apt, Closed, not-made}
 use Rattle.ledger.proofs.Walks.{Leads}
+
+-- the one cause, besides the power, for which an apt call is refused
+room-only : (b : Bool) (y : Cause) → causeIf b NoRoom ≡ Some y → y ≡ NoRoom
+room-only true y e = cc
+room-only false y e = let z : _≡_ {A = ℕ} 0 1 = cc in absurd (omega arith)
+
+no-range : (b : Bool) (y : Cause) → b ≡ false → causeIf b Range ≡ Some y → y ≡ NoRoom
+no-range true y f e = let z : _≡_ {A = ℕ} 0 1 = cc in absurd (omega arith)
+no-range false y f e = let z : _≡_ {A = ℕ} 0 1 = cc in absurd (omega arith)
+
+apt-refused : (o : Op) (v : View) (y : Cause) → Apt o (v .disk) → refusesUp o v ≡ Some y → y ≡ NoRoom
+apt-refused (Open b) v y a e = elim (cases-bool (isSome (find (v .disk .blobs) b))) [
+  | inl i ↦ let z : _≡_ {A = ℕ} 0 1 = cc (e, cond-true (isSome (find (v .disk .blobs) b)) None (causeIf (leb (v .most) (length (v .disk .blobs))) NoRoom) i) in absurd (omega arith)
+  | inr i ↦ room-only (leb (v .most) (length (v .disk .blobs))) y (sym (cond-false (isSome (find (v .disk .blobs) b)) None (causeIf (leb (v .most) (length (v .disk .blobs))) NoRoom) i) ∙ e)
+]
+apt-refused (Append b bs) v y a e =
+    let k : Blob → Option Cause = λ x. causeIf (ltb (v .room b) (length bs)) NoRoom in
+    room-only (ltb (v .room b) (length bs)) y (sym (ap (λ (x : Option Blob). atBlob x k) (a .1)) ∙ e)
+apt-refused (Truncate b n) v y a e =
+    let k : Blob → Option Cause = λ x. causeIf (ltb (length (x .bytes)) n) Range in
+    no-range (ltb (length (a .0 .bytes)) n) y (le-ltb (length (a .0 .bytes)) n (a .2)) (sym (ap (λ (x : Option Blob). atBlob x k) (a .1)) ∙ e)
+apt-refused (Sync b) v y a e = never {B = y ≡ NoRoom} (refusesUp (Sync b) v) y (ap (λ (x : Option Blob). atBlob x (λ z. None)) (a .1)) e
+apt-refused (Remove b) v y a e = never {B = y ≡ NoRoom} (refusesUp (Remove b) v) y (ap (λ (x : Option Blob). atBlob x (λ z. None)) (a .1)) e
+apt-refused (Put k n) v y a e = never {B = y ≡ NoRoom} (refusesUp (Put k n) v) y refl e
+apt-refused (DropKey k) v y a e = never {B = y ≡ NoRoom} (refusesUp (DropKey k) v) y refl e
+apt-refused SyncKeys v y a e = never {B = y ≡ NoRoom} (refusesUp SyncKeys v) y refl e
 
 pub record Answered {A : Type 0} (Q : A → Disk → Type 0) (v : View) (r : Outcome A) (w : View) : Type 0 where
   pub it : A
@@ -25,6 +57,7 @@ pub record Halted {A : Type 0} (S : Disk → Type 0) (v : View) (r : Outcome A) 
   pub step : Step
   pub cause : Cause
   pub is : r ≡ stopped step cause
+  pub why : (cause ≡ Power) ⊎ (cause ≡ NoRoom)
   pub holds : S (w .disk)
   pub ops : List Op
   pub at : Op
@@ -47,12 +80,13 @@ follows-leads {A} S Q cl (call o p) v w r up k (inl (u, does, f)) = more (follow
   where
     more : Answered Q u r w ⊎ Halted S u r w → Answered Q v r w ⊎ Halted S v r w
     more (inl a) = inl (record { it = a .it; is = a .is; holds = a .holds; up = a .up; ops = o ∷ a .ops; made = inl (u, does, a .made) })
-    more (inr h) = inr (record { step = h .step; cause = h .cause; is = h .is; holds = h .holds; ops = o ∷ h .ops; at = h .at; made = inl (u, does, h .made) })
+    more (inr h) = inr (record { step = h .step; cause = h .cause; is = h .is; why = h .why; holds = h .holds; ops = o ∷ h .ops; at = h .at; made = inl (u, does, h .made) })
 follows-leads S Q cl (call o p) v w r up k (inr (y, e, inl n)) = inr (record {
   step = Rattle.rules.specs.Rules.Wrote o;
   cause = y;
   is = e;
-  holds = subst (λ (u : View). S (u .disk)) (sym (n .1)) (k .0 (v .disk) (not-made o (v .disk)));
+  why = inr (apt-refused o v y (k .0 .0) (sym (cond-true (v .up) (refusesUp o v) (Some Power) up) ∙ n .0));
+  holds = subst (λ (u : View). S (u .disk)) (sym (n .1)) (k .0 .1 (v .disk) (not-made o (v .disk)));
   ops = o ∷ [];
   at = o;
   made = inr (y, refl, inl n);
@@ -61,7 +95,8 @@ follows-leads S Q cl (call o p) v w r up k (inr (y, e, inr n)) = inr (record {
   step = Rattle.rules.specs.Rules.Wrote o;
   cause = y;
   is = e;
-  holds = cl (n .2 .middle) (w .disk) (k .0 (n .2 .middle) (n .2 .counted)) (n .2 .weakened) (n .2 .saved);
+  why = inl (n .0);
+  holds = cl (n .2 .middle) (w .disk) (k .0 .1 (n .2 .middle) (n .2 .counted)) (n .2 .weakened) (n .2 .saved);
   ops = o ∷ [];
   at = o;
   made = inr (y, refl, inr n);

@@ -25,7 +25,7 @@ use Rattle.ledger.proofs.Blobs.{count, find-change, find-change-same, find-cha
 use Rattle.ledger.proofs.Standing.{first, room, blob-first, blob-is, first-room, first-apart, first-next, room-some, HintFree, HintStands, KeysStand, Standing, Stands, stands, Empty, Staged, Safe, Rows, moved}
 use Rattle.ledger.proofs.Done.{standing-sync, standing-put, standing-drop, standing-keys, standing-open, standing-append, standing-ahead, standing-kept}
 use Rattle.ledger.proofs.Power.{safe-weakened}
-use Rattle.ledger.proofs.Chain.{Chain, chain-append, chain-then, Ends, Closed, made-chain, plain}
+use Rattle.ledger.proofs.Chain.{Chain, Found, chain-append, chain-then, Closed, plain}
 use lib.ListN.{length-take}
 use Rattle.std.proofs.shelf.Bits.{le-div, div-below}
 use native.Mathlib.Nat.{lt-div-mul-add, div-mul-le-self}

@@ -56,34 +56,6 @@ module _ {R : Type 0} (c : Config) (enc : R → List ℕ) where
     most = w .most;
   }))
 
-  -- the power goes during a call: each disk that the call may count as is safe
-  pub safe-cut : (l : Ledger R) (o : Op) (v w : View) → ((e : Disk) → Counted o (v .disk) e → Safe c enc e l) → Cut o v w → Safe c enc (w .disk) l
-  safe-cut l o v w all k = safe-weakened l (k .middle) (w .disk) (all (k .middle) (k .counted)) (k .weakened) (k .saved)
-
-  -- a call other than an append counts as not made or as made
-  pub counted-either : (l : Ledger R) (o : Op) (d e : Disk) → ((b : ℕ) (bs : List ℕ) → o ≡ Append b bs → ⊥) → Safe c enc d l → Safe c enc (done o d) l → Counted o d e → Safe c enc e l
-  counted-either l (Open b) d e n p q (inl i) = rw i p
-  counted-either l (Open b) d e n p q (inr i) = rw i q
-  counted-either l (Append b bs) d e n p q k = absurd (n b bs refl)
-  counted-either l (Truncate b m) d e n p q (inl i) = rw i p
-  counted-either l (Truncate b m) d e n p q (inr i) = rw i q
-  counted-either l (Sync b) d e n p q (inl i) = rw i p
-  counted-either l (Sync b) d e n p q (inr i) = rw i q
-  counted-either l (Remove b) d e n p q (inl i) = rw i p
-  counted-either l (Remove b) d e n p q (inr i) = rw i q
-  counted-either l (Put k m) d e n p q (inl i) = rw i p
-  counted-either l (Put k m) d e n p q (inr i) = rw i q
-  counted-either l (DropKey k) d e n p q (inl i) = rw i p
-  counted-either l (DropKey k) d e n p q (inr i) = rw i q
-  counted-either l SyncKeys d e n p q (inl i) = rw i p
-  counted-either l SyncKeys d e n p q (inr i) = rw i q
-
-  -- an append counts as not made, or as an append of a first part
-  pub counted-append : (l : Ledger R) (b : ℕ) (bs : List ℕ) (d e : Disk) → Safe c enc d l → ((k : ℕ) → Safe c enc (done (Append b (take k bs)) d) l)
-      → Counted (Append b bs) d e → Safe c enc e l
-  counted-append l b bs d e p q (inl i) = rw i p
-  counted-append l b bs d e p q (inr (k, i)) = rw i (q k)
-
   keys-same : (l m : Ledger R) (j k : Keys) → k ≡ j → m .start ≡ l .start → l .kept ≤ m .kept → KeysStand c j l → KeysStand c k m
   keys-same l m j k e s h q = let a = q .mark-kept in record {
     target = rw e (q .target);

@@ -21,11 +21,11 @@ use native.Mathlib.Nat.{mul-le-mul-right, le-of-mul-le-mul-right}
 use Rattle.rules.specs.Rules.{Config, blobOf, aligned, persist}
 use Rattle.rules.specs.Calls.{Running, committing, appending}
 use Rattle.ledger.specs.Ledger.{Ledger, appended}
-use Rattle.ledger.proofs.Blobs.{count, find-change, find-change-same, find-change-other, found-listed}
+use Rattle.ledger.proofs.Blobs.{count, find-change, find-change-same, find-change-other, found-listed, listed-find}
 use Rattle.ledger.proofs.Standing.{first, room, blob-first, blob-is, first-room, first-apart, first-next, room-some, HintFree, HintStands, KeysStand, Standing, Stands, stands, Empty, Staged, Safe, Rows, moved}
 use Rattle.ledger.proofs.Done.{standing-sync, standing-put, standing-drop, standing-keys, standing-open, standing-append, standing-ahead, standing-kept}
 use Rattle.ledger.proofs.Power.{safe-weakened}
-use Rattle.ledger.proofs.Chain.{Chain, chain-append, chain-then, Ends, Closed, made-chain, plain}
+use Rattle.ledger.proofs.Chain.{Chain, Found, chain-append, chain-then, Closed, plain}
 use native.Mathlib.Nat.{mul-add-mod-self-right, mod-self}
 use Rattle.store.specs.Disk.{without}
 use Rattle.ledger.proofs.Standing.{first-later, room-later, rows-apart}
@@ -35,9 +35,9 @@ use Rattle.ledger.proofs.Done.{standing-remove-low}
 use Rattle.ledger.proofs.Runs.{Tied, Inside, SafeFor, safe-closed, commit-chain}
 
 module _ {R : Type 0} (c : Config) (enc : R → List ℕ) where
-  pub tied-remove-low : {lo more : ℕ} (l : Ledger R) (d : Disk) (o : Option ℕ) → Tied c enc lo (suc more) d l o → lo * c .n + c .n ≤ l .kept
-      → Tied c enc (lo + 1) more (done (Remove lo) d) (moved l (lo * c .n + c .n) (l .end) (l .kept) (l .far)) o
-  tied-remove-low {lo} {more} l d o r gone =
+  pub tied-remove-low : {lo more : ℕ} (l : Ledger R) (d : Disk) → Tied c enc lo (suc more) d l None → lo * c .n + c .n ≤ l .kept
+      → Tied c enc (lo + 1) more (done (Remove lo) d) (moved l (lo * c .n + c .n) (l .end) (l .kept) (l .far)) None
+  tied-remove-low {lo} {more} l d r gone =
       let low = r .stand .rows .low in
       let top : lo + suc more ≡ lo + 1 + more = omega arith in
       let ft : first c (lo * c .n + c .n) (lo + 1 + more) ≡ first c (l .start) (lo + suc more) =
@@ -61,7 +61,7 @@ module _ {R : Type 0} (c : Config) (enc : R → List ℕ) where
         bytes = r .bytes;
         full = λ b x e h. rw (room-later c (l .start) lo low b (above b x e)) (r .full b x (old b x e) (omega arith));
         safe = λ b x e h. rw (room-later c (l .start) lo low b (above b x e)) (r .safe b x (old b x e) (omega arith));
-        owed-below = λ b e. let h = r .owed-below b e in omega arith;
+        owed-below = λ k e. let z : _≡_ {A = ℕ} 0 1 = cc in absurd (omega arith);
         now-saved = r .now-saved;
       }
 
@@ -105,7 +105,7 @@ module _ {R : Type 0} (c : Config) (enc : R → List ℕ) where
       let f = blob-first c s lo low (lo + suc (k + more)) in
       let en = t′ .ends in
       let gone : lo * c .n + c .n ≤ l .end = omega (arith, rows-apart (c .n) lo (lo + suc (k + more)) (omega arith)) in
-      let t1 = tied-remove-low (moved l s (l .end) (l .end) (l .far)) d None t′ gone in
+      let t1 = tied-remove-low (moved l s (l .end) (l .end) (l .far)) d t′ gone in
       let tn : (lo + (suc k + more)) * c .n ≡ (lo + 1 + (k + more)) * c .n = ap (λ (j : ℕ). j * c .n) (omega arith) in
       let up : l .start < lo * c .n + c .n = let a = low .below in omega arith in
       let st : PruneStops l (b * c .n) (done (Remove lo) d) = inr (
@@ -117,7 +117,7 @@ module _ {R : Type 0} (c : Config) (enc : R → List ℕ) where
           safe = inl (stands c enc (done (Remove lo) d) (moved l (lo * c .n + c .n) (l .end) (l .end) (l .far)) (t1 .stand));
         },
       ) in (
-        plain (PruneStops l (b * c .n)) (Remove lo) d tt h st,
+        plain (PruneStops l (b * c .n)) (Remove lo) d (listed-find (d .blobs) lo (suc (suc (k + more))) lo (t′ .stand .rows .listed) (omega arith) (omega arith)) h st,
         remove-chain k (lo + 1) more (lo * c .n + c .n) b hi l (done (Remove lo) d) t1 (omega arith) (omega arith) (λ y. omega arith) (omega arith) st,
       )
 

@@ -25,7 +25,7 @@ use Rattle.ledger.proofs.Blobs.{count, find-change, find-change-same, find-cha
 use Rattle.ledger.proofs.Standing.{first, room, blob-first, blob-is, first-room, first-apart, first-next, room-some, HintFree, HintStands, KeysStand, Standing, Stands, stands, Empty, Staged, Safe, Rows, moved}
 use Rattle.ledger.proofs.Done.{standing-sync, standing-put, standing-drop, standing-keys, standing-open, standing-append, standing-ahead, standing-kept}
 use Rattle.ledger.proofs.Power.{safe-weakened}
-use Rattle.ledger.proofs.Chain.{Chain, chain-append, chain-then, Ends, Closed, made-chain, plain}
+use Rattle.ledger.proofs.Chain.{Chain, Found, chain-append, chain-then, Closed, plain}
 use lib.ListN.{length-take}
 use Rattle.std.proofs.shelf.Bits.{le-div, div-below}
 use native.Mathlib.Nat.{lt-div-mul-add, div-mul-le-self}
@@ -53,13 +53,14 @@ use native.Mathlib.Nat.{lt-of-mul-lt-mul-right}
 use Rattle.ledger.proofs.Rows.{from-low, has-in, has-above, from-row, from-above, upTo-all, upTo-row, upTo-next, reverse-more}
 
 -- a row of syncs, over what every sync keeps
-pub sync-rows : (S Q P : Disk → Type 0) → ((e : Disk) → P e → S e) → ((a : ℕ) (e : Disk) → P e → P (done (Sync a) e)) → (k a : ℕ) (ops : List Op) (e : Disk) → P e → SafeTo (e .blobs) a
+pub sync-rows : (S Q P : Disk → Type 0) → ((e : Disk) → P e → S e) → ((a : ℕ) (e : Disk) → P e → P (done (Sync a) e)) → (k a : ℕ) → ((j : ℕ) (f : Disk) → P f → a ≤ j → j < a + k → Found (f .blobs) j)
+    → (ops : List Op) (e : Disk) → P e → SafeTo (e .blobs) a
     → ((f : Disk) → P f → SafeTo (f .blobs) (a + k) → Chain S Q ops f) → Chain S Q (map Sync (count a k) ++ ops) e
-sync-rows S Q P safe keep zero a ops e p t next = next e p (let z : a ≡ a + 0 = omega arith in subst (λ (j : ℕ). SafeTo (e .blobs) j) z t)
-sync-rows S Q P safe keep (suc k) a ops e p t next =
+sync-rows S Q P safe keep zero a there ops e p t next = next e p (let z : a ≡ a + 0 = omega arith in subst (λ (j : ℕ). SafeTo (e .blobs) j) z t)
+sync-rows S Q P safe keep (suc k) a there ops e p t next =
     let p1 = keep a e p in (
-      plain S (Sync a) e tt (safe e p) (safe (done (Sync a) e) p1),
-      sync-rows S Q P safe keep k (a + 1) ops (done (Sync a) e) p1 (safe-more a e t) (λ f q u. next f q (let z : a + 1 + k ≡ a + suc k = omega arith in subst (λ (j : ℕ). SafeTo (f .blobs) j) z u)),
+      plain S (Sync a) e (there a e p (omega arith) (omega arith)) (safe e p) (safe (done (Sync a) e) p1),
+      sync-rows S Q P safe keep k (a + 1) (λ j f q h g. there j f q (omega arith) (omega arith)) ops (done (Sync a) e) p1 (safe-more a e t) (λ f q u. next f q (let z : a + 1 + k ≡ a + suc k = omega arith in subst (λ (j : ℕ). SafeTo (f .blobs) j) z u)),
     )
   where
     safe-more : (a : ℕ) (e : Disk) → SafeTo (e .blobs) a → SafeTo (change synced a (e .blobs)) (a + 1)
@@ -179,7 +180,7 @@ module _ {R : Type 0} (c : Config) (enc : R → List ℕ) (zp : 0 < c .z) (ez : 
     pub ran-chain : Chain S (Ran lo) (map Sync (numbers (e .blobs)) ++ (Open b ∷ [])) e
     ran-chain =
         subst (λ (r : List ℕ). Chain S (Ran lo) (map Sync r ++ (Open b ∷ [])) e) (sym (t .stand .rows .listed))
-        (sync-rows S (Ran lo) P (λ f p. safe-ran f (p .0 .stand)) (λ a f p. (tied-sync c enc ran f None a (p .0), tail-sync (lo + y) a f (p .1))) (suc y) lo (Open b ∷ []) e (t, ts)
+        (sync-rows S (Ran lo) P (λ f p. safe-ran f (p .0 .stand)) (λ a f p. (tied-sync c enc ran f None a (p .0), tail-sync (lo + y) a f (p .1))) (suc y) lo (λ j f p h g. listed-find (f .blobs) lo (suc y) j (p .0 .stand .rows .listed) h g) (Open b ∷ []) e (t, ts)
         (λ i v f h. absurd (let a = found-listed (e .blobs) lo (suc y) i v (t .stand .rows .listed) f in omega arith))
         (λ f p u. open-tail f p))
 

@@ -21,11 +21,11 @@ use native.Mathlib.Nat.{mul-le-mul-right, le-of-mul-le-mul-right}
 use Rattle.rules.specs.Rules.{Config, blobOf, aligned, persist}
 use Rattle.rules.specs.Calls.{Running, committing, appending}
 use Rattle.ledger.specs.Ledger.{Ledger, appended}
-use Rattle.ledger.proofs.Blobs.{count, find-change, find-change-same, find-change-other, found-listed}
+use Rattle.ledger.proofs.Blobs.{count, find-change, find-change-same, find-change-other, found-listed, listed-find}
 use Rattle.ledger.proofs.Standing.{first, room, blob-first, blob-is, first-room, first-apart, first-next, room-some, HintFree, HintStands, KeysStand, Standing, Stands, stands, Empty, Staged, Safe, Rows, moved}
 use Rattle.ledger.proofs.Done.{standing-sync, standing-put, standing-drop, standing-keys, standing-open, standing-append, standing-ahead, standing-kept}
 use Rattle.ledger.proofs.Power.{safe-weakened}
-use Rattle.ledger.proofs.Chain.{Chain, chain-append, chain-then, Ends, Closed, made-chain, plain}
+use Rattle.ledger.proofs.Chain.{Chain, Found, chain-append, chain-then, Closed, plain}
 
 pub record Tied {R : Type 0} (c : Config) (enc : R → List ℕ) (lo more : ℕ) (d : Disk) (l : Ledger R) (owed : Option ℕ) : Type 0 where
   pub stand : Standing c enc lo more d l
@@ -41,7 +41,7 @@ pub record Tied {R : Type 0} (c : Config) (enc : R → List ℕ) (lo more : ℕ)
   -- those below it are full, and safe but for the one that is owed
   pub full : (b : ℕ) (x : Blob) → find (d .blobs) b ≡ Some x → b < lo + more → room c (l .start) b * c .z ≤ x .sound
   pub safe : (b : ℕ) (x : Blob) → find (d .blobs) b ≡ Some x → b < lo + more → (owed ≡ Some b) ⊎ (room c (l .start) b * c .z ≤ x .safe)
-  pub owed-below : (b : ℕ) → owed ≡ Some b → suc b ≡ lo + more
+  pub owed-below : (b : ℕ) → owed ≡ Some b → (suc b ≡ lo + more) × (lo ≤ b)
   pub now-saved : d .present ≡ d .saved
 
 -- where the highest blob has room for the next record
@@ -190,7 +190,7 @@ module _ {R : Type 0} (c : Config) (enc : R → List ℕ) where
   commit-none : {lo more : ℕ} (l : Ledger R) (d : Disk) (s : ℕ) → Tied c enc lo more d l None → Inside c lo more l
       → Chain (SafeFor l) (λ e. Tied c enc lo more e (moved l (l .start) (l .end) (l .end) (l .far)) None) (committing c (record { start = s; end = l .end; owed = None })) d
   commit-none {lo} {more} l d s r i = (
-    plain (SafeFor l) (Sync (blobOf c (l .end))) d tt (inl (stands c enc d l (r .stand))) (inl (stands c enc (done (Sync (blobOf c (l .end))) d) l (standing-sync c enc l d (r .stand) (blobOf c (l .end))))),
+    plain (SafeFor l) (Sync (blobOf c (l .end))) d (r .tail, ap (λ (j : ℕ). find (d .blobs) j) (end-top l d None r i) ∙ r .found) (inl (stands c enc d l (r .stand))) (inl (stands c enc (done (Sync (blobOf c (l .end))) d) l (standing-sync c enc l d (r .stand) (blobOf c (l .end))))),
     tied-commit l d (blobOf c (l .end)) r (end-top l d None r i),
   )
 
@@ -199,15 +199,7 @@ module _ {R : Type 0} (c : Config) (enc : R → List ℕ) where
   commit-chain {lo} {more} l d s None r i = commit-none l d s r i
   commit-chain {lo} {more} l d s (Some b) r i =
       let n = tied-owed l d b r in
-      (plain (SafeFor l) (Sync b) d tt (inl (stands c enc d l (r .stand))) (inl (stands c enc (done (Sync b) d) l (n .stand))), commit-none l (done (Sync b) d) s n i)
-
-  -- a commit that is done keeps all; one that is stopped leaves a disk that is safe for the ledger as it was
-  pub committed : {lo more : ℕ} (l : Ledger R) (v w : View) (s : ℕ) (o : Option ℕ) (res : Option (Op × Cause)) → Tied c enc lo more (v .disk) l o → Inside c lo more l
-      → Made (committing c (record { start = s; end = l .end; owed = o })) v res w
-      → Ends (SafeFor l) (λ e. Tied c enc lo more e (moved l (l .start) (l .end) (l .end) (l .far)) None) res w
-  committed {lo} {more} l v w s o res r i m =
-      made-chain (SafeFor l) (λ e. Tied c enc lo more e (moved l (l .start) (l .end) (l .end) (l .far)) None) (safe-closed l)
-      (committing c (record { start = s; end = l .end; owed = o })) v w res (commit-chain l (v .disk) s o r i) m
+      (plain (SafeFor l) (Sync b) d (let u = r .owed-below b refl in listed-find (d .blobs) lo (suc more) b (r .stand .rows .listed) (omega arith) (omega arith)) (inl (stands c enc d l (r .stand))) (inl (stands c enc (done (Sync b) d) l (n .stand))), commit-none l (done (Sync b) d) s n i)
 
   -- the keys ----------------------------------------------------------------------------------
 

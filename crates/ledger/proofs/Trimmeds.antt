@@ -25,7 +25,7 @@ use Rattle.ledger.proofs.Blobs.{count, find-change, find-change-same, find-cha
 use Rattle.ledger.proofs.Standing.{first, room, blob-first, blob-is, first-room, first-apart, first-next, room-some, HintFree, HintStands, KeysStand, Standing, Stands, stands, Empty, Staged, Safe, Rows, moved}
 use Rattle.ledger.proofs.Done.{standing-sync, standing-put, standing-drop, standing-keys, standing-open, standing-append, standing-ahead, standing-kept}
 use Rattle.ledger.proofs.Power.{safe-weakened}
-use Rattle.ledger.proofs.Chain.{Chain, chain-append, chain-then, Ends, Closed, made-chain, plain}
+use Rattle.ledger.proofs.Chain.{Chain, Found, chain-append, chain-then, Closed, plain}
 use lib.ListN.{length-take}
 use Rattle.std.proofs.shelf.Bits.{le-div, div-below}
 use native.Mathlib.Nat.{lt-div-mul-add, div-mul-le-self}
@@ -150,7 +150,7 @@ module _ {R : Type 0} (c : Config) (enc : R → List ℕ) (zp : 0 < c .z) (ez : 
         }
         go true e =
             let t2 = tied-sync c enc m d1 None b t1 in (
-              plain S (Sync b) d1 tt (inl (stands c enc d1 m (t1 .stand))) (inl (stands c enc (done (Sync b) d1) m (t2 .stand))),
+              plain S (Sync b) d1 (t1 .tail, ap (λ (j : ℕ). find (d1 .blobs) j) bt ∙ t1 .found) (inl (stands c enc d1 m (t1 .stand))) (inl (stands c enc (done (Sync b) d1) m (t2 .stand))),
               record {
                 lo = lo;
                 more = more;
@@ -206,7 +206,7 @@ module _ {R : Type 0} (c : Config) (enc : R → List ℕ) (zp : 0 < c .z) (ez : 
       → ((e : Disk) → Tied c enc lo more e (KeptAll l) None → TailSafe (lo + more) e → Chain S Q ops e) → Chain S Q (map Sync (numbers (d .blobs)) ++ ops) d
   sync-all {lo} {more} l S Q ops d safe t next =
       subst (λ (r : List ℕ). Chain S Q (map Sync r ++ ops) d) (sym (t .stand .rows .listed))
-      (sync-rows S Q (λ f. Tied c enc lo more f l None) safe (λ a f p. tied-sync c enc l f None a p) (suc more) lo ops d t
+      (sync-rows S Q (λ f. Tied c enc lo more f l None) safe (λ a f p. tied-sync c enc l f None a p) (suc more) lo (λ j f p h g. listed-find (f .blobs) lo (suc more) j (p .stand .rows .listed) h g) ops d t
       (λ i v f h. absurd (let a = found-listed (d .blobs) lo (suc more) i v (t .stand .rows .listed) f in omega arith))
       (λ f p u. let ts : TailSafe (lo + more) f = λ v g. u (lo + more) v g (omega arith) in next f (tied-kept l f p ts) ts))
 

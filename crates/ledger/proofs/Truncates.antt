@@ -25,7 +25,7 @@ use Rattle.ledger.proofs.Blobs.{count, find-change, find-change-same, find-cha
 use Rattle.ledger.proofs.Standing.{first, room, blob-first, blob-is, first-room, first-apart, first-next, room-some, HintFree, HintStands, KeysStand, Standing, Stands, stands, Empty, Staged, Safe, Rows, moved}
 use Rattle.ledger.proofs.Done.{standing-sync, standing-put, standing-drop, standing-keys, standing-open, standing-append, standing-ahead, standing-kept}
 use Rattle.ledger.proofs.Power.{safe-weakened}
-use Rattle.ledger.proofs.Chain.{Chain, chain-append, chain-then, Ends, Closed, made-chain, plain}
+use Rattle.ledger.proofs.Chain.{Chain, Found, chain-append, chain-then, Closed, plain}
 use lib.ListN.{length-take}
 use Rattle.std.proofs.shelf.Bits.{le-div, div-below}
 use native.Mathlib.Nat.{lt-div-mul-add, div-mul-le-self}
@@ -198,7 +198,7 @@ module _ {R : Type 0} (c : Config) (enc : R → List ℕ) (zp : 0 < c .z) (ez : 
       let e1 : Disk = done (Remove (a + j)) e in
       let k1 : Cutting lo x (x + j) d e1 = record { stand = w1; agree = λ i q. find-without-other (a + j) i (e .blobs) (λ o. omega arith) ∙ k .agree i q; target = k .target } in
       subst (λ (r : List ℕ). Chain S Q (map Remove r ++ ops) e) (sym (reverse-more a j (a + j) refl))
-      (plain S (Remove (a + j)) e tt (safe-at e w) (safe-at e1 w1), remove-above j lo x a d e1 Q ops h g k1 next)
+      (plain S (Remove (a + j)) e (listed-find (e .blobs) lo (suc (suc (x + j))) (a + j) (w .rows .listed) (omega arith) (omega arith)) (safe-at e w) (safe-at e1 w1), remove-above j lo x a d e1 Q ops h g k1 next)
 
   -- the highest that is left is cut to the size, or synced
   pub record Ended (lo x : ℕ) (d e : Disk) : Type 0 where
@@ -267,7 +267,7 @@ module _ {R : Type 0} (c : Config) (enc : R → List ℕ) (zp : 0 < c .z) (ez : 
           let e1 : Disk = done (Truncate b n) e in
           let tl = length-take n (t .bytes) in
           let so = within in (
-            plain S (Truncate b n) e tt (safe-at e (k .stand)) (safe-at e1 w1),
+            plain S (Truncate b n) e (t, fe, omega arith) (safe-at e (k .stand)) (safe-at e1 w1),
             next e1 (record {
               stand = w1;
               agree = λ i h. find-change-other (cutTo n) b i (e .blobs) (λ o. omega arith) ∙ k .agree i (omega arith);
@@ -289,7 +289,7 @@ module _ {R : Type 0} (c : Config) (enc : R → List ℕ) (zp : 0 < c .z) (ez : 
           let e1 : Disk = done (Sync b) e in
           let hz = within in
           let sh = short in (
-            plain S (Sync b) e tt (safe-at e (k .stand)) (safe-at e1 w1),
+            plain S (Sync b) e (t, fe) (safe-at e (k .stand)) (safe-at e1 w1),
             next e1 (record {
               stand = w1;
               agree = λ i h. find-change-other synced b i (e .blobs) (λ o. omega arith) ∙ k .agree i (omega arith);
@@ -392,7 +392,7 @@ module _ {R : Type 0} (c : Config) (enc : R → List ℕ) (zp : 0 < c .z) (ez : 
         let is : e ≡ e1 = λ i. record { blobs = sym same i; present = e .present; saved = e .saved } in
         let m1 : Mid e1 = subst Mid is m in
         let m2 : Mid (done (Sync b) e1) = mid-sync b e1 m1 in
-        (plain S (Open b) e tt (safe-at e (m .stand)) (safe-at e1 (m1 .stand)), (plain S (Sync b) e1 tt (safe-at e1 (m1 .stand)) (safe-at (done (Sync b) e1) (m2 .stand)), m2))
+        (plain S (Open b) e tt (safe-at e (m .stand)) (safe-at e1 (m1 .stand)), (plain S (Sync b) e1 (listed-find (e1 .blobs) lo (suc more) b (m1 .stand .rows .listed) low-blob (omega arith)) (safe-at e1 (m1 .stand)) (safe-at (done (Sync b) e1) (m2 .stand)), m2))
 
     -- the calls before the last
     abbrev above : List Op

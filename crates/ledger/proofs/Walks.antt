@@ -22,7 +22,7 @@ use Rattle.ledger.proofs.Blobs.{count, never, found-listed, find-change-same, 
 use Rattle.ledger.proofs.Standing.{first, room, first-is, room-is, Lowest, first-room, first-next, first-low, room-some, Fits, Standing, Safe, moved}
 use Rattle.ledger.proofs.Reach.{reachOf, full, reach-from}
 use Rattle.ledger.proofs.Done.{standing-truncate}
-use Rattle.ledger.proofs.Chain.{Chain, plain}
+use Rattle.ledger.proofs.Chain.{Chain, Step, plain}
 
 -- plans -----------------------------------------------------------------------------------------
 
@@ -31,7 +31,7 @@ abbrev pub Leads : {A : Type 0} → (Disk → Type 0) → (A → Disk → Type 0
 Leads S Q (answer a) d = Q a d
 Leads S Q (refuse f) d = ⊥
 Leads S Q (ask p) d = S d × Leads S Q p d
-Leads S Q (call o p) d = ((e : Disk) → Counted o d e → S e) × Leads S Q p (done o d)
+Leads S Q (call o p) d = Step S o d × Leads S Q p (done o d)
 
 pub leads-unless : {A : Type 0} (S : Disk → Type 0) (Q : A → Disk → Type 0) (b : Bool) (f : Fault) (p : Plan A) (d : Disk) → b ≡ false → Leads S Q p d → Leads S Q (refuseIf b f p) d
 leads-unless S Q true f p d e k = let z : _≡_ {A = ℕ} 0 1 = cc in absurd (omega arith)
@@ -162,7 +162,7 @@ module _ {R : Type 0} (c : Config) (enc : R → List ℕ) (zp : 0 < c .z) {lo mo
       let dm = div-add-mod' (x .1 .sound) (c .z) in
       next x d (stay (ap (λ (t : ℕ). t / c .z) lv ∙ mul-div-cancel (x .1 .sound / c .z) zp) (omega arith) lv) st)
       (λ e. leads-unless S Q (ltb v (acknowledged c (m .start) floor (x .0))) (Corruption 3) _ d (le-ltb v (acknowledged c (m .start) floor (x .0)) (rw v-is (sus .ack-sound))) (
-        plain S (Truncate (x .0) v) d tt (safe d st) (safe (done (Truncate (x .0) v) d) cut),
+        plain S (Truncate (x .0) v) d (x .1, found, v-short) (safe d st) (safe (done (Truncate (x .0) v) d) cut),
         next (x .0, cutTo v (x .1)) (done (Truncate (x .0) v) d) cut-left cut,
       ))))
     where
