@@ -20,7 +20,7 @@ use Rattle.rules.specs.Rules.{MAX, Config}
 use Rattle.ledger.specs.Ledger.{Ledger, entered, appended}
 use Rattle.std.specs.Joined.{joined}
 use Rattle.ledger.proofs.Blobs.{count, looked, never, find-change, find-change-same, find-change-other, numbers-change, listed-find, found-listed, not-listed, find-insert-other, find-insert-same, numbers-insert-top, find-without-other, numbers-without-low, numbers-without-top, numbers-settled, find-settled, weakened-numbers, weakened-find, weakened-found, weaker-self}
-use Rattle.ledger.proofs.Standing.{first, room, Lowest, first-room, first-next, first-low, start-first, first-apart, room-some, Fits, Reached, Held, Rows, moved, first-later, room-later}
+use Rattle.ledger.proofs.Standing.{first, room, Lowest, first-room, first-next, first-low, start-first, first-apart, room-some, Fits, Reached, Held, Rows, moved, first-later, room-later, first-is}
 
 -- a window of z bytes at a, of lists that agree up to s
 pub window : (z a s : ℕ) (xs ys : List ℕ) → a + z ≤ s → take s ys ≡ take s xs → take z (drop a ys) ≡ take z (drop a xs)
@@ -82,7 +82,8 @@ module _ {R : Type 0} (c : Config) (enc : R → List ℕ) (l : Ledger R) where
   rows-lesser {lo} {more} bs es w n each deep kept = record {
     listed = n ∙ w .listed;
     low = w .low;
-    fits = λ b y e. let r = each b y e in let f = w .fits b (r .0) (r .1) in let g = r .2 in record { safe-sound = g .safe-within; sound-length = g .sound-within; length-room = omega arith };
+    fits = λ b y e. let r = each b y e in let f = w .fits b (r .0) (r .1) in let g = r .2 in let j = f .most in
+        record { safe-sound = g .safe-within; sound-length = g .sound-within; length-room = omega arith; most = (j .0, let a = j .1 in omega arith, j .2) };
     deep = deep;
     start-kept = w .start-kept;
     kept-far = w .kept-far;
@@ -185,7 +186,10 @@ module _ {R : Type 0} (c : Config) (enc : R → List ℕ) (l : Ledger R) where
     listed = numbers-insert-top bs (lo) (suc (more)) k (omega arith) (w .listed);
     low = w .low;
     fits = λ b x e. elim (split b x e) [
-      | inl r ↦ record { safe-sound = omega arith; sound-length = omega arith; length-room = omega arith }
+      | inl r ↦
+          let at : k * c .n ≡ b * c .n = ap (λ (j : ℕ). j * c .n) (r .0) in
+          let sk = w .start-kept in let kf = w .kept-far in let fm = w .far-most in
+          record { safe-sound = omega arith; sound-length = omega arith; length-room = omega arith; most = (0, omega arith, omega (arith, first-is c (l .start) b)) }
       | inr r ↦ w .fits b x (r .1)
     ];
     deep = λ b x e h. elim (split b x e) [
@@ -263,7 +267,7 @@ module _ {R : Type 0} (c : Config) (enc : R → List ℕ) (l : Ledger R) where
     listed = listed;
     low = record { from = omega arith; below = let a = w .low .from in let b = w .low .below in omega arith };
     fits = λ b x o. let f = w .fits b x (old b x o) in
-        record { safe-sound = f .safe-sound; sound-length = f .sound-length; length-room = rw (room-now b x o) (f .length-room) };
+        record { safe-sound = f .safe-sound; sound-length = f .sound-length; length-room = rw (room-now b x o) (f .length-room); most = (f .most .0, f .most .1, rw (first-now b x o) (f .most .2)) };
     deep = λ b x o h. rw (room-now b x o) (w .deep b x (old b x o) (omega arith));
     start-kept = gone;
     kept-far = w .kept-far;
@@ -378,7 +382,8 @@ module _ {R : Type 0} (c : Config) (enc : R → List ℕ) (l : Ledger R) where
       | inl r ↦ let f = w .fits hi x here in let i : room c (l .start) hi ≡ room c (l .start) b = ap (λ (j : ℕ). room c (l .start) j) (r .0) in
           let m = mul-le-mul-right (c .z) space in let n : room c (l .start) hi * c .z ≡ room c (l .start) b * c .z = ap (λ (j : ℕ). j * c .z) i in
           let g = grown-is y (r .1) in let ps = part-short in
-          record { safe-sound = omega arith; sound-length = omega arith; length-room = omega arith }
+          let fb : first c (l .start) hi ≡ first c (l .start) b = ap (λ (j : ℕ). first c (l .start) j) (r .0) in
+          record { safe-sound = omega arith; sound-length = omega arith; length-room = omega arith; most = (have + length rs, omega arith, omega arith) }
       | inr r ↦ w .fits b y (r .1)
     ];
     deep = λ b y e h. elim (split b y e) [

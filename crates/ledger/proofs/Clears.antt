@@ -55,7 +55,10 @@ module _ {R : Type 0} (c : Config) (enc : R → List ℕ) (np : 0 < c .n) (zp : 
   rows-blank l t s k f most = record {
     listed = refl;
     low = low;
-    fits = λ b x e. let o = one-found (t / c .n) b x e in record { safe-sound = omega arith; sound-length = omega arith; length-room = omega arith };
+    fits = λ b x e. let o = one-found (t / c .n) b x e in
+        let a = first-low c (l .start) (t / c .n) low in
+        let fb : first c (l .start) b ≡ first c (l .start) (t / c .n) = ap (λ (j : ℕ). first c (l .start) j) (sym (o .0)) in
+        record { safe-sound = omega arith; sound-length = omega arith; length-room = omega arith; most = (0, omega arith, omega arith) };
     deep = λ b x e h. let o = one-found (t / c .n) b x e in absurd (omega arith);
     start-kept = omega arith;
     kept-far = omega arith;

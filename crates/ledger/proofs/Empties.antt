@@ -52,7 +52,7 @@ use Rattle.rules.specs.Calls.{publish-rule}
 use Rattle.ledger.proofs.Standing.{Lowest, first-low}
 use Rattle.ledger.proofs.Runs.{safe-same, safe-put, safe-drop}
 use Rattle.ledger.proofs.Clears.{rows-blank, one-found}
-use Rattle.ledger.proofs.Walks.{Leads, leads-unless, leads-calls}
+use Rattle.ledger.proofs.Plans.{Leads, leads-unless, leads-calls}
 use Rattle.std.proofs.shelf.Lists.{append-nil}
 
 module _ {R : Type 0} (c : Config) (enc : R → List ℕ) (np : 0 < c .n) (zp : 0 < c .z) (ez : (r : R) → length (enc r) ≡ c .z) where

@@ -15,9 +15,9 @@ use lib.ListN.{length}
 use lib.Dec.{leb, ltb}
 use Rattle.store.specs.Disk.{Blob, Disk, View, find, Op, Open, Append, Truncate, Sync, Remove, Put, DropKey, SyncKeys, Does, Refuses, refusesUp, atBlob, causeIf, Made, done, Counted}
 use Rattle.ledger.proofs.Blobs.{never}
-use Rattle.rules.specs.Rules.{Plan, answer, refuse, ask, call, Step, Outcome, answered, refused, stopped, Follows}
+use Rattle.rules.specs.Rules.{Plan, Fault, answer, refuse, ask, call, Step, Outcome, answered, refused, stopped, Follows}
 use Rattle.ledger.proofs.Chain.{Apt, Closed, not-made}
-use Rattle.ledger.proofs.Walks.{Leads}
+use Rattle.ledger.proofs.Plans.{Leads-or}
 
 -- the one cause, besides the power, for which an apt call is refused
 room-only : (b : Bool) (y : Cause) → causeIf b NoRoom ≡ Some y → y ≡ NoRoom
@@ -53,6 +53,14 @@ pub record Answered {A : Type 0} (Q : A → Disk → Type 0) (v : View) (r : Out
   pub ops : List Op
   pub made : Made ops v None w
 
+pub record Turned {A : Type 0} (F : Fault → Disk → Type 0) (v : View) (r : Outcome A) (w : View) : Type 0 where
+  pub fault : Fault
+  pub is : r ≡ refused fault
+  pub holds : F fault (w .disk)
+  pub up : w .up ≡ true
+  pub ops : List Op
+  pub made : Made ops v None w
+
 pub record Halted {A : Type 0} (S : Disk → Type 0) (v : View) (r : Outcome A) (w : View) : Type 0 where
   pub step : Step
   pub cause : Cause
@@ -63,41 +71,51 @@ pub record Halted {A : Type 0} (S : Disk → Type 0) (v : View) (r : Outcome A) 
   pub at : Op
   pub made : Made ops v (Some (at, cause)) w
 
--- a plan that leads to Q, and to S wherever it stops, is answered or stopped so, on a store that is up
-pub follows-leads : {A : Type 0} (S : Disk → Type 0) (Q : A → Disk → Type 0) → Closed S → (p : Plan A) (v w : View) (r : Outcome A) → v .up ≡ true → Leads S Q p (v .disk) → Follows p v r w → Answered Q v r w ⊎ Halted S v r w
-follows-leads S Q cl (answer x) v w r up k f = inl (record {
-  it = x;
-  is = f .0;
-  holds = subst (λ (u : View). Q x (u .disk)) (sym (f .1)) k;
-  up = subst (λ (u : View). u .up ≡ true) (sym (f .1)) up;
-  ops = [];
-  made = (refl, f .1);
-})
-follows-leads S Q cl (refuse x) v w r up k f = elim k [ ]
-follows-leads S Q cl (ask p) v w r up k (inl f) = follows-leads S Q cl p v w r up (k .1) (f .1)
-follows-leads S Q cl (ask p) v w r up k (inr f) = let a = f .0 in let z : _≡_ {A = ℕ} 0 1 = cc in absurd (omega arith)
-follows-leads {A} S Q cl (call o p) v w r up k (inl (u, does, f)) = more (follows-leads S Q cl p u w r (does .1) (subst (λ (d : Disk). Leads S Q p d) (sym (does .2)) (k .1)) f)
-  where
-    more : Answered Q u r w ⊎ Halted S u r w → Answered Q v r w ⊎ Halted S v r w
-    more (inl a) = inl (record { it = a .it; is = a .is; holds = a .holds; up = a .up; ops = o ∷ a .ops; made = inl (u, does, a .made) })
-    more (inr h) = inr (record { step = h .step; cause = h .cause; is = h .is; why = h .why; holds = h .holds; ops = o ∷ h .ops; at = h .at; made = inl (u, does, h .made) })
-follows-leads S Q cl (call o p) v w r up k (inr (y, e, inl n)) = inr (record {
-  step = Rattle.rules.specs.Rules.Wrote o;
-  cause = y;
-  is = e;
-  why = inr (apt-refused o v y (k .0 .0) (sym (cond-true (v .up) (refusesUp o v) (Some Power) up) ∙ n .0));
-  holds = subst (λ (u : View). S (u .disk)) (sym (n .1)) (k .0 .1 (v .disk) (not-made o (v .disk)));
-  ops = o ∷ [];
-  at = o;
-  made = inr (y, refl, inl n);
-})
-follows-leads S Q cl (call o p) v w r up k (inr (y, e, inr n)) = inr (record {
-  step = Rattle.rules.specs.Rules.Wrote o;
-  cause = y;
-  is = e;
-  why = inl (n .0);
-  holds = cl (n .2 .middle) (w .disk) (k .0 .1 (n .2 .middle) (n .2 .counted)) (n .2 .weakened) (n .2 .saved);
-  ops = o ∷ [];
-  at = o;
-  made = inr (y, refl, inr n);
-})
+-- a plan that leads to Q, to F or to S is answered, refused or stopped so, on a store that is up
+module _ {A : Type 0} (S : Disk → Type 0) (Q : A → Disk → Type 0) (F : Fault → Disk → Type 0) (closed : Closed S) where
+  pub follows-leads : (p : Plan A) (v w : View) (r : Outcome A) → v .up ≡ true → Leads-or S Q F p (v .disk) → Follows p v r w → Answered Q v r w ⊎ (Turned F v r w ⊎ Halted S v r w)
+  follows-leads (answer x) v w r up k f = inl (record {
+    it = x;
+    is = f .0;
+    holds = subst (λ (u : View). Q x (u .disk)) (sym (f .1)) k;
+    up = subst (λ (u : View). u .up ≡ true) (sym (f .1)) up;
+    ops = [];
+    made = (refl, f .1);
+  })
+  follows-leads (refuse x) v w r up k f = inr (inl (record {
+    fault = x;
+    is = f .0;
+    holds = subst (λ (u : View). F x (u .disk)) (sym (f .1)) k;
+    up = subst (λ (u : View). u .up ≡ true) (sym (f .1)) up;
+    ops = [];
+    made = (refl, f .1);
+  }))
+  follows-leads (ask p) v w r up k (inl f) = follows-leads p v w r up (k .1) (f .1)
+  follows-leads (ask p) v w r up k (inr f) = let a = f .0 in let z : _≡_ {A = ℕ} 0 1 = cc in absurd (omega arith)
+  follows-leads (call o p) v w r up k (inl (u, does, f)) =
+      more (follows-leads p u w r (does .1) (subst (λ (d : Disk). Leads-or S Q F p d) (sym (does .2)) (k .1)) f)
+    where
+      more : Answered Q u r w ⊎ (Turned F u r w ⊎ Halted S u r w) → Answered Q v r w ⊎ (Turned F v r w ⊎ Halted S v r w)
+      more (inl a) = inl (record { it = a .it; is = a .is; holds = a .holds; up = a .up; ops = o ∷ a .ops; made = inl (u, does, a .made) })
+      more (inr (inl a)) = inr (inl (record { fault = a .fault; is = a .is; holds = a .holds; up = a .up; ops = o ∷ a .ops; made = inl (u, does, a .made) }))
+      more (inr (inr h)) = inr (inr (record { step = h .step; cause = h .cause; is = h .is; why = h .why; holds = h .holds; ops = o ∷ h .ops; at = h .at; made = inl (u, does, h .made) }))
+  follows-leads (call o p) v w r up k (inr (y, e, inl n)) = inr (inr (record {
+    step = Rattle.rules.specs.Rules.Wrote o;
+    cause = y;
+    is = e;
+    why = inr (apt-refused o v y (k .0 .0) (sym (cond-true (v .up) (refusesUp o v) (Some Power) up) ∙ n .0));
+    holds = subst (λ (u : View). S (u .disk)) (sym (n .1)) (k .0 .1 (v .disk) (not-made o (v .disk)));
+    ops = o ∷ [];
+    at = o;
+    made = inr (y, refl, inl n);
+  }))
+  follows-leads (call o p) v w r up k (inr (y, e, inr n)) = inr (inr (record {
+    step = Rattle.rules.specs.Rules.Wrote o;
+    cause = y;
+    is = e;
+    why = inl (n .0);
+    holds = closed (n .2 .middle) (w .disk) (k .0 .1 (n .2 .middle) (n .2 .counted)) (n .2 .weakened) (n .2 .saved);
+    ops = o ∷ [];
+    at = o;
+    made = inr (y, refl, inr n);
+  }))

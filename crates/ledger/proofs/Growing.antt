@@ -60,7 +60,7 @@ use native.Mathlib.Nat.{lt-of-mul-lt-mul-right, div-eq-of-lt-le, mul-le-mul-left
 use Rattle.ledger.proofs.Rows.{from-low, has-in, has-above, from-row, from-above, upTo-all, upTo-row, upTo-next, reverse-more}
 use Rattle.rules.specs.Rules.{Plan, answer, refuse, ask, call, calls, refuseIf, ItemPruned, Layout}
 use Rattle.rules.specs.Calls.{truncate-rule, publish-rule, truncated}
-use Rattle.ledger.proofs.Walks.{Leads, leads-unless, leads-calls}
+use Rattle.ledger.proofs.Plans.{Leads, leads-unless, leads-calls}
 use Rattle.ledger.proofs.Truncates.{Cut-to, truncate-chain, chain-end}
 use Rattle.ledger.proofs.Publishes.{Ran, ran-chain, raise-chain, in-line}
 use Rattle.ledger.proofs.Trimmeds.{Trim, KeptAll, safe-ahead, trimmed-append-chain, trimmed-sync-done, trimmed-prune-chain}
@@ -195,11 +195,3 @@ run-good {R} c enc decodes ez back l r v up k p h g = good c enc decodes ez back
           let mz = mul-le-mul-right (c .z) mh in
           omega arith
     ]
-
--- a plan whose answer is put another way
-pub leads-leaving : {A : Type 0} (S : Disk → Type 0) (Q : A → Disk → Type 0) (P : Rattle.ledger.specs.Runs.Log → Disk → Type 0) (f : A → Rattle.ledger.specs.Runs.Log) → ((a : A) (e : Disk) → Q a e → P (f a) e)
-    → (p : Plan A) (d : Disk) → Leads S Q p d → Leads S P (Rattle.ledger.specs.Runs.leaving f p) d
-leads-leaving S Q P f h (answer x) d k = h x d k
-leads-leaving S Q P f h (refuse x) d k = k
-leads-leaving S Q P f h (ask p) d k = (k .0, leads-leaving S Q P f h p d (k .1))
-leads-leaving S Q P f h (call o p) d k = (k .0, leads-leaving S Q P f h p (done o d) (k .1))

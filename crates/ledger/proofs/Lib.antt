@@ -5,6 +5,7 @@ pub mod Reach
 pub mod Done
 pub mod Power
 pub mod Chain
+pub mod Plans
 pub mod Runs
 pub mod Appends
 pub mod Prunes

@@ -26,7 +26,8 @@ use Rattle.ledger.proofs.Blobs.{count, never, found-listed, listed-find}
 use Rattle.ledger.proofs.Standing.{Still, rows-apart, first, room, first-is, room-is, Lowest, first-room, first-next, first-low, room-some, blob-first, Fits, Rows, KeysStand, HintStands, HintFree, Standing, Stands, Empty, Staged, Safe, moved}
 use Rattle.ledger.proofs.Reach.{reachOf, full, reach-from, kept-reach, reach-covers, reach-top}
 use Rattle.ledger.proofs.Chain.{Chain, plain}
-use Rattle.ledger.proofs.Walks.{Leads, leads-unless, leads-calls, Trimmed, walk-reach, Suspect, Trim, Left, examine-leads}
+use Rattle.ledger.proofs.Plans.{Leads, leads-unless, leads-calls}
+use Rattle.ledger.proofs.Walks.{Trimmed, walk-reach, Suspect, Trim, Left, examine-leads}
 
 -- the two highest -------------------------------------------------------------------------------
 

@@ -60,7 +60,7 @@ use native.Mathlib.Nat.{lt-of-mul-lt-mul-right, div-eq-of-lt-le, mul-le-mul-left
 use Rattle.ledger.proofs.Rows.{from-low, has-in, has-above, from-row, from-above, upTo-all, upTo-row, upTo-next, reverse-more}
 use Rattle.rules.specs.Rules.{Plan, answer, refuse, ask, call, calls, refuseIf, ItemPruned, Layout}
 use Rattle.rules.specs.Calls.{truncate-rule, publish-rule, truncated}
-use Rattle.ledger.proofs.Walks.{Leads, leads-unless, leads-calls}
+use Rattle.ledger.proofs.Plans.{Leads, leads-unless, leads-calls}
 use Rattle.ledger.proofs.Truncates.{Cut-to, truncate-chain, chain-end}
 use Rattle.ledger.proofs.Publishes.{Ran, ran-chain, raise-chain, in-line}
 use Rattle.ledger.proofs.Trimmeds.{Trim}

@@ -93,6 +93,8 @@ pub record Fits (c : Config) (s b : ℕ) (x : Blob) : Type 0 where
   pub safe-sound : x .safe ≤ x .sound
   pub sound-length : x .sound ≤ length (x .bytes)
   pub length-room : length (x .bytes) ≤ room c s b * c .z
+  -- the positions of its records, of torn ones too, fit 64 bits
+  pub most : (j : ℕ) × (length (x .bytes) ≤ j * c .z) × (first c s b + j ≤ MAX)
 
 -- the blob below b, where there is one, is sound to its last record
 abbrev pub Reached : Config → ℕ → Blobs → ℕ → Type 0

@@ -22,24 +22,8 @@ use Rattle.ledger.proofs.Blobs.{count, never, found-listed, find-change-same, 
 use Rattle.ledger.proofs.Standing.{first, room, first-is, room-is, Lowest, first-room, first-next, first-low, room-some, Fits, Standing, Safe, moved}
 use Rattle.ledger.proofs.Reach.{reachOf, full, reach-from}
 use Rattle.ledger.proofs.Done.{standing-truncate}
-use Rattle.ledger.proofs.Chain.{Chain, Step, plain}
-
--- plans -----------------------------------------------------------------------------------------
-
--- wherever a plan stops, S; where it answers, Q; and it does not refuse
-abbrev pub Leads : {A : Type 0} → (Disk → Type 0) → (A → Disk → Type 0) → Plan A → Disk → Type 0
-Leads S Q (answer a) d = Q a d
-Leads S Q (refuse f) d = ⊥
-Leads S Q (ask p) d = S d × Leads S Q p d
-Leads S Q (call o p) d = Step S o d × Leads S Q p (done o d)
-
-pub leads-unless : {A : Type 0} (S : Disk → Type 0) (Q : A → Disk → Type 0) (b : Bool) (f : Fault) (p : Plan A) (d : Disk) → b ≡ false → Leads S Q p d → Leads S Q (refuseIf b f p) d
-leads-unless S Q true f p d e k = let z : _≡_ {A = ℕ} 0 1 = cc in absurd (omega arith)
-leads-unless S Q false f p d e k = k
-
-pub leads-calls : {A : Type 0} (S : Disk → Type 0) (Q : A → Disk → Type 0) (os : List Op) (p : Plan A) (d : Disk) → Chain S (λ e. Leads S Q p e) os d → Leads S Q (calls os p) d
-leads-calls S Q [] p d k = k
-leads-calls S Q (o ∷ os) p d k = (k .0, leads-calls S Q os p (done o d) (k .1))
+use Rattle.ledger.proofs.Chain.{plain}
+use Rattle.ledger.proofs.Plans.{Leads, leads-unless}
 
 -- the walk --------------------------------------------------------------------------------------
 
