@@ -81,6 +81,10 @@ module _ {R : Type 0} (c : Config) (enc : R → List ℕ) (l : Ledger R) {lo mor
     keys = let q = w .keys in let m = q .mark-kept in record { target = q .target; mark = q .mark; marked = q .marked; mark-kept = omega arith; hint = q .hint };
   }
 
+  -- the ledger's end does not count
+  pub standing-end : (e : ℕ) → Standing c enc lo more d (moved l (l .start) e (l .kept) (l .far))
+  standing-end e = standing-kept (l .kept) e (omega arith) (w .rows .kept-far) (w .rows .kept-top) (w .rows .kept)
+
   -- kept goes down, once the saved mark has
   pub standing-kept-less : (k e : ℕ) → l .start ≤ k → k ≤ l .kept → w .keys .mark ≤ k → Standing c enc lo more d (moved l (l .start) e k (l .far))
   standing-kept-less k e from to under = record {

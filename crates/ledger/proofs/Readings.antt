@@ -28,7 +28,7 @@ use Rattle.ledger.specs.Runs.{readBy, told, Kind}
 use Rattle.ledger.proofs.Blobs.{listed-find, found-listed}
 use Rattle.ledger.proofs.Standing.{first, room, first-is, first-room, first-apart, Rows, Held}
 use Rattle.ledger.proofs.Calculus.{window}
-use Rattle.ledger.proofs.Recovers.{Cuttable}
+use Rattle.ledger.proofs.Cuts.{Cuttable}
 use Rattle.std.specs.Options.{isSome}
 
 -- which positions are inside

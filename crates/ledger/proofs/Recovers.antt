@@ -64,25 +64,7 @@ use Rattle.ledger.proofs.Plans.{Leads, leads-unless, leads-calls}
 use Rattle.ledger.proofs.Truncates.{Cut-to, truncate-chain, chain-end}
 use Rattle.ledger.proofs.Publishes.{Ran, ran-chain, raise-chain, in-line}
 use Rattle.ledger.proofs.Trimmeds.{Trim}
-use Rattle.ledger.proofs.Opens.{Whole}
-use Rattle.ledger.proofs.Rests.{Ready, Shows}
-
--- what truncate and publish go from
-pub record Cuttable {R : Type 0} (c : Config) (enc : R → List ℕ) (l : Ledger R) (o : Opened) (d : Disk) : Type 0 where
-  pub lo : ℕ
-  pub more : ℕ
-  pub sure : ℕ
-  pub kept-sure : l .kept ≤ sure
-  pub stand : Standing c enc lo more d (moved l (l .start) (l .end) sure (l .far))
-  pub start : o .start ≡ l .start
-  pub mark : o .mark ≤ sure
-  pub far : o .end ≤ l .far
-  pub covers : (b : ℕ) (x : Blob) (m : ℕ) → find (d .blobs) b ≡ Some x → m ≤ room c (l .start) b → first c (l .start) b + m ≤ o .end → m * c .z ≤ x .sound
-  pub sealed : (b : ℕ) (x : Blob) → find (d .blobs) b ≡ Some x → b * c .n + c .n ≤ o .end → room c (l .start) b * c .z ≤ x .safe
-  pub top : o .end ≤ (lo + more) * c .n + c .n
-  -- every blob is set aside, or only what is above the end
-  pub edge : ((o .edge ≡ 0) × (o .end ≤ l .start)) ⊎ ((o .end ≤ o .edge * c .n) × (l .start < o .edge * c .n))
-  pub now : d .present ≡ d .saved
+use Rattle.ledger.proofs.Cuts.{Cuttable}
 
 -- a trimmed log in hand
 pub record Trim-as {R : Type 0} (c : Config) (enc : R → List ℕ) (l : Ledger R) (o : Opened) (e : Disk) : Type 0 where
@@ -198,7 +180,7 @@ module _ {R : Type 0} (c : Config) (enc : R → List ℕ) (zp : 0 < c .z) (ez : 
             (λ a q. record { start = k .start; end = refl; lo = k .lo; more = q .more; tied = q .tied; inside = q .inside })
             (subst (λ (s : ℕ). Chain S (Ran c enc zp ez l size h to-far fm (k .lo)) (cond raise (persist c s size) []) f) (sym (k .start)) (raise-chain c enc zp ez l size h to-far fm (k .lo) raise f p))))
 
--- from a trimmed log, and from an open with no ceiling
+-- from a trimmed log
 module _ {R : Type 0} (c : Config) (enc : R → List ℕ) (l : Ledger R) (o : Opened) (d : Disk) where
   pub trim-cuttable : Trim-as c enc l o d → Cuttable c enc l o d
   trim-cuttable t = record {
@@ -259,29 +241,3 @@ module _ {R : Type 0} (c : Config) (enc : R → List ℕ) (l : Ledger R) (o : Op
           let e : hi ≡ b = omega arith in
           let j : find (d .blobs) hi ≡ find (d .blobs) b = ap (λ (n : ℕ). find (d .blobs) n) e in
           (e, cc (r .found, f, j))
-
-  pub ready-cuttable : (np : 0 < c .n) (zp : 0 < c .z) (nz : c .n * c .z ≤ MAX) → Shows c enc np zp nz l o d → Ready c enc np zp nz l o d → Cuttable c enc l o d
-  ready-cuttable np zp nz s r = record {
-    lo = r .lo;
-    more = r .more;
-    sure = r .sure;
-    kept-sure = r .kept-sure;
-    stand = r .stand;
-    start = s .start;
-    mark = r .mark;
-    far = let e = s .end in omega arith;
-    covers = λ b x m f h g.
-        let w = r .even b x f in let e = s .end in
-        let u = mul-le-mul-right (c .z) (w .covers m h (omega arith)) in
-        let a = w .sound in let y = w .bytes in omega arith;
-    sealed = λ b x f g.
-        let w = r .even b x f in let e = s .end in
-        let at = found-listed (d .blobs) (r .lo) (suc (r .more)) b x (r .stand .rows .listed) f in
-        let fr = first-room c (l .start) (r .lo) (r .stand .rows .low) b (at .0) in
-        let u = mul-le-mul-right (c .z) (w .covers (room c (l .start) b) (omega arith) (omega arith)) in
-        let a = w .sound in let y = w .bytes in let q = w .safe in omega arith;
-    top = let a = r .far-top in let e = s .end in omega arith;
-    edge = inr (let n : o .edge * c .n ≡ noEdge * c .n = ap (λ (j : ℕ). j * c .n) (s .edge) in let u = mul-le-mul-left {m = 1} {n = c .n} noEdge np in
-        let fmost = r .stand .rows .far-most in let e = s .end in let sk = r .stand .rows .start-kept in let kf = r .stand .rows .kept-far in (omega arith, omega arith));
-    now = s .now-saved;
-  }

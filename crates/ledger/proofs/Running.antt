@@ -74,13 +74,11 @@ use Rattle.ledger.specs.Ledger.{entry, pruneTo, kept-to-end, Prune}
 use Rattle.std.proofs.shelf.Tests.{leb-true, leb-false, lt-leb}
 use Rattle.ledger.proofs.Runs.{commit-chain, sync-chain}
 use Rattle.ledger.proofs.Recovers.{Run-as}
-use Rattle.ledger.proofs.Opens.{Whole}
-use Rattle.ledger.proofs.Rests.{Ready, Shows}
 use Rattle.rules.specs.Calls.{prune-rule}
 use Rattle.ledger.proofs.Prunes.{prune-chain}
 use Rattle.ledger.proofs.Opens.{start-blob}
 use Rattle.ledger.proofs.Standing.{rows-apart}
-use Rattle.ledger.proofs.Recovers.{Cuttable}
+use Rattle.ledger.proofs.Cuts.{Cuttable}
 use Rattle.ledger.proofs.Readings.{Good, good}
 use Rattle.ledger.proofs.Follow.{Answered, Halted, follows-leads}
 

@@ -74,8 +74,6 @@ use Rattle.ledger.specs.Ledger.{entry, pruneTo, kept-to-end, Prune}
 use Rattle.std.proofs.shelf.Tests.{leb-true, leb-false, lt-leb}
 use Rattle.ledger.proofs.Runs.{commit-chain, sync-chain}
 use Rattle.ledger.proofs.Recovers.{Run-as}
-use Rattle.ledger.proofs.Opens.{Whole}
-use Rattle.ledger.proofs.Rests.{Ready, Shows}
 
 module _ {R : Type 0} (c : Config) (enc : R → List ℕ) (zp : 0 < c .z) (ez : (r : R) → length (enc r) ≡ c .z) (l : Ledger R) (o : Opened) (d : Disk) (t : Trim-as c enc l o d) where
   abbrev k : Opened
@@ -173,7 +171,7 @@ module _ {R : Type 0} (c : Config) (enc : R → List ℕ) (zp : 0 < c .z) (ez : 
 
 -- a staged clear, carried out
 module _ {R : Type 0} (c : Config) (enc : R → List ℕ) (np : 0 < c .n) (zp : 0 < c .z) where
-  cleared-trim : (l : Ledger R) (t : ℕ) (e : Disk) → l .start ≡ t → l .end ≡ t → l .far ≡ t → Cleared c enc np zp l t e → Trim c enc l e
+  pub cleared-trim : (l : Ledger R) (t : ℕ) (e : Disk) → l .start ≡ t → l .end ≡ t → l .far ≡ t → Cleared c enc np zp l t e → Trim c enc l e
   cleared-trim l t e ls le lf q = record {
     lo = b;
     more = 0;

@@ -8,6 +8,7 @@ use lib.Dec.{ltb}
 use Rattle.std.specs.declared.option.Option.{Option}
 use Rattle.std.specs.declared.option.Option.the-variants.{None, Some}
 use Rattle.store.specs.Disk.{Disk, View, Restarted, New}
+use Rattle.store.specs.Laws.{Lawful}
 use Rattle.rules.specs.Rules.{Config, MAX, badConfig, Fault, ItemPruned, ItemOutOfRange, SizeOverflow, OffsetOverflow, EmptyAppend, Corruption, Layout, NotRising, NoSpace, Codec}
 use Rattle.rules.specs.Rules.{Plan, answer, refuse, ask, call, refuseIf, Outcome, answered, refused, stopped, Follows}
 use Rattle.rules.specs.Open.{Opened, open-rule}
@@ -107,12 +108,12 @@ module _ {R : Type 0} (c : Config) (writes : R → List ℕ) (decodes : List ℕ
   readBy s v (One p) = told (read-rule decodes c (s .0) (s .1) v p)
   readBy s v (Many ps bytes recs) = told (read-many-rule decodes c (s .0) (s .1) v ps bytes recs)
 
-  -- events, newest first, with the log in hand and the store that they leave
+  -- events, newest first, with the log in hand and the store that they leave, whose view always has the laws of a store
   abbrev pub Happened : List (Event R) → Log → View → Type 0
-  Happened [] l w = (l ≡ fresh) × New w
-  Happened (Restart ∷ es) l w = (k : Log) × (v : View) × Happened es k v × Restarted v w × (l ≡ fresh)
+  Happened [] l w = (l ≡ fresh) × New w × Lawful w
+  Happened (Restart ∷ es) l w = (k : Log) × (v : View) × Happened es k v × Restarted v w × Lawful w × (l ≡ fresh)
   Happened (Called x e s ∷ es) l w =
-      (k : Log) × (v : View) × (p : Plan Log) × (r : Outcome Log) × Happened es k v × (ruleOf k (v .disk) x ≡ Some p) × Follows p v r w
+      (k : Log) × (v : View) × (p : Plan Log) × (r : Outcome Log) × Happened es k v × (ruleOf k (v .disk) x ≡ Some p) × Follows p v r w × Lawful w
       × (e ≡ endOf r) × (l ≡ logAfter k r) × (s ≡ spanOf l)
   Happened (Read q a ∷ es) l w = (s : ℕ × ℕ) × Happened es l w × (spanOf l ≡ Some s) × (a ≡ readBy s w q)
 
