@@ -6,7 +6,6 @@ use mathlib.Core.Bool.{Bool, true, false, cond}
 use mathlib.Core.List.{List, [], _∷_, _++_}
 use lib.Dec.{eqb, leb, ltb}
 use native.Mathlib.Omega.{arith}
-use native.Mathlib.Nat.{div-mul-le-self}
 use Rattle.std.proofs.shelf.Tests.{cases-bool, cond-true, cond-false, eq-eqb, le-ltb}
 use Rattle.std.specs.declared.option.Option.{Option}
 use Rattle.std.specs.declared.option.Option.the-variants.{None, Some}
@@ -21,19 +20,11 @@ use Rattle.ledger.proofs.Reach.{reachOf}
 use Rattle.ledger.proofs.Power.{Rest}
 use Rattle.ledger.proofs.Plans.{Leads-or, unrefused, Leads, leads-unless, leads-if, leads-or-calls, leads-as}
 use Rattle.ledger.proofs.Clears.{Cleared, clear-chain}
+use Rattle.ledger.proofs.Empties.{Bare}
 use Rattle.ledger.proofs.Cuts.{Cuttable, cuttable-end}
 use Rattle.ledger.proofs.Recovers.{trim-cuttable}
 use Rattle.ledger.proofs.Trimming.{cleared-trim}
 use Rattle.ledger.proofs.Opens.{Small, searched, from-start, standing-is, open-standing}
-
--- an opened log with no blobs
-pub record Bare {R : Type 0} (c : Config) (l : Ledger R) (o : Opened) (e : Disk) : Type 0 where
-  pub empty : Empty c e l
-  pub far : l .far ≡ 0
-  pub start : o .start ≡ 0
-  pub end : o .end ≡ 0
-  pub mark : o .mark ≡ 0
-  pub now : e .present ≡ e .saved
 
 module _ {R : Type 0} (c : Config) (enc : R → List ℕ) (np : 0 < c .n) (zp : 0 < c .z) (pp : 0 < c .page) (ceiling : Option ℕ) where
   -- what an open shows: the ledger's start, and its far end below the ceiling
@@ -95,8 +86,8 @@ module _ {R : Type 0} (c : Config) (enc : R → List ℕ) (np : 0 < c .n) (zp : 
             λ i. record { blobs = d .blobs; present = p i; saved = d .saved }
 
     -- an empty store, at a hint that is passed over
-    bare : (mk edge : ℕ) → mk ≡ 0 → (w : Empty c d l) → l .far ≡ 0 → Shows l (record { start = 0; end = min 0 (orMax ceiling); mark = mk; bounded = Rattle.std.specs.Options.isSome ceiling; edge = edge }) d
-    bare mk edge mz w far =
+    bare : (mk edge : ℕ) → (w : Empty c d l) → l .far ≡ 0 → Shows l (record { start = 0; end = min 0 (orMax ceiling); mark = mk; bounded = Rattle.std.specs.Options.isSome ceiling; edge = edge }) d
+    bare mk edge w far =
         let at : lower (l .far) ceiling ≡ 0 = sym (end-is (l .far) ceiling (omega arith)) ∙ (let q : min (l .far) (orMax ceiling) ≡ 0 = omega arith in q) in
         record {
           clear = passed l ceiling (none ceiling);
@@ -107,7 +98,6 @@ module _ {R : Type 0} (c : Config) (enc : R → List ℕ) (np : 0 < c .n) (zp : 
             far = far;
             start = refl;
             end = omega arith;
-            mark = mz;
             now = now;
           });
         }
@@ -121,11 +111,11 @@ module _ {R : Type 0} (c : Config) (enc : R → List ℕ) (np : 0 < c .n) (zp : 
     below-none (Some k) = le-ltb k 0 (omega arith)
 
     empty-end : (m : Option ℕ) → Empty c d l → l .far ≡ 0 → (m ≡ None) ⊎ (m ≡ Some 0) → Leads S (Shows l) (weigh c 0 ceiling (edgeAt c 0 ceiling) m (open-rules.stands 0 false)) d
-    empty-end None w far mm = bare (Rattle.rules.specs.Rules.firstIn c 0 (blobOf c 0)) (edgeAt c 0 ceiling) (let a = div-mul-le-self 0 (c .n) in omega arith) w far
+    empty-end None w far mm = bare (Rattle.rules.specs.Rules.firstIn c 0 (blobOf c 0)) (edgeAt c 0 ceiling) w far
     empty-end (Some v) w far (inl e) = let z : _≡_ {A = ℕ} 0 1 = cc in absurd (omega arith)
     empty-end (Some v) w far (inr e) =
         let i : v ≡ 0 = cc in
-        leads-unless S (Shows l) (ltb 0 (min v (orMax ceiling))) (Corruption 5) _ d (le-ltb 0 (min v (orMax ceiling)) (omega arith)) (bare (min v (orMax ceiling)) (edgeAt c 0 ceiling) (omega arith) w far)
+        leads-unless S (Shows l) (ltb 0 (min v (orMax ceiling))) (Corruption 5) _ d (le-ltb 0 (min v (orMax ceiling)) (omega arith)) (bare (min v (orMax ceiling)) (edgeAt c 0 ceiling) w far)
 
     hint-aligned : (h : ℕ) → HintFree c 0 (Some h) → aligned c h ≡ true
     hint-aligned h (inl e) = let z : _≡_ {A = ℕ} 0 1 = cc in absurd (omega arith)

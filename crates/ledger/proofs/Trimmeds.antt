@@ -126,7 +126,7 @@ module _ {R : Type 0} (c : Config) (enc : R → List ℕ) (zp : 0 < c .z) (ez : 
     pub safe-ahead : {lo more : ℕ} (d : Disk) → Tied c enc lo more d l None → S d
     safe-ahead d t = ahead c enc zp ez l m d (r ∷ []) (t .stand) (let a = t .whole in omega arith) most refl
 
-    in-blob : {lo more : ℕ} (d : Disk) (b : ℕ) → Tied c enc lo more d l None → b ≡ lo + more → l .end < (lo + more) * c .n + c .n
+    pub in-blob : {lo more : ℕ} (d : Disk) (b : ℕ) → Tied c enc lo more d l None → b ≡ lo + more → l .end < (lo + more) * c .n + c .n
         → Chain S (Trim c enc m) (Append b (joined enc (r ∷ [])) ∷ cond (aligned c (l .end + 1)) (Sync b ∷ []) []) d
     in-blob {lo} {more} d b t bt space =
         (run-counted c enc zp ez l m (r ∷ []) [] d None b t bt (omega arith) most refl, go (aligned c (l .end + 1)) refl)
