@@ -27,3 +27,5 @@ pub mod Readings
 pub mod Empties
 pub mod Running
 pub mod Growing
+pub mod States
+pub mod Events
