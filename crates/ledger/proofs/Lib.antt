@@ -29,3 +29,4 @@ pub mod Running
 pub mod Growing
 pub mod States
 pub mod Events
+pub mod Law

@@ -124,3 +124,7 @@ module _ {R : Type 0} (c : Config) (writes : R → List ℕ) (decodes : List ℕ
 
   abbrev pub Law : Type 0
   Law = badConfig c ≡ false → Kind → (es : List (Event R)) (l : Log) (w : View) → Happened es l w → (m : Ledger R) × Agrees c es w m
+
+-- the law of every configuration and every kind of record
+abbrev pub LawFor : Type 0 → Type 0
+LawFor R = (c : Config) (writes : R → List ℕ) (decodes : List ℕ → Option R) → Law c writes decodes
