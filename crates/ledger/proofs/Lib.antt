@@ -30,3 +30,4 @@ pub mod Growing
 pub mod States
 pub mod Events
 pub mod Law
+pub mod Useless

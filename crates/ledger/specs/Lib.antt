@@ -1,2 +1,3 @@
 pub mod Ledger
 pub mod Runs
+pub mod Useless

@@ -1,9 +1,24 @@
 // The ledger and its promises, and the law: every history that the rules allow agrees with it.
 ghost use Rattle.ledger.specs.Runs.{LawFor};
+ghost use Rattle.ledger.specs.Useless.{Useless, Taken};
 
 // The law, for records of any type.
 pub fn law_stands<R>() -> u8
     ensures { λ _. ⌜ LawFor R ⌝ }
+{
+    0
+}
+
+// The ledger rejects histories of logs that are of no use.
+pub fn useless_stands() -> u8
+    ensures { λ _. ⌜ Useless ⌝ }
+{
+    0
+}
+
+// And it takes a useful one.
+pub fn taken_stands() -> u8
+    ensures { λ _. ⌜ Taken ⌝ }
 {
     0
 }
