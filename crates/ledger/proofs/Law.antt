@@ -58,7 +58,7 @@ up-offered (running r) x v e u = u
 
 module _ {R : Type 0} (c : Config) (writes : R → List ℕ) (decodes : List ℕ → Option R) (np : 0 < c .n) (zp : 0 < c .z) (pp : 0 < c .page) (kind : Kind c writes decodes) where
   -- what holds of the events so far, the log in hand and the store
-  record Holds (es : List (Event R)) (k : Log) (w : View) : Type 0 where
+  pub record Holds (es : List (Event R)) (k : Log) (w : View) : Type 0 where
     pub ledger : Ledger R
     pub agrees : Agrees c es w ledger
     pub state : State c writes k ledger (w .disk)
@@ -115,7 +115,7 @@ module _ {R : Type 0} (c : Config) (writes : R → List ℕ) (decodes : List ℕ
         ends (Stopped (Some (a .cause))) over (ee ∙ ap endOf (a .is)) (nn ∙ ap (λ (u : Outcome Log). logAfter k u) (a .is)) (a .holds .ledger)
         (a .holds .clear, a .holds .left, (a .why, (a .ops, a .at, a .made))) (a .holds .safe) tt refl
 
-  holds : (es : List (Event R)) (k : Log) (w : View) → Happened c writes decodes es k w → Holds es k w
+  pub holds : (es : List (Event R)) (k : Log) (w : View) → Happened c writes decodes es k w → Holds es k w
   holds [] k w (kk, new, law) =
       let q = new-rests c writes w new in
       let at : State c writes fresh first (w .disk) = q in
@@ -146,13 +146,24 @@ module _ {R : Type 0} (c : Config) (writes : R → List ℕ) (decodes : List ℕ
         lawful = h .lawful;
       }
 
-pub law-stands : {R : Type 0} (c : Config) (writes : R → List ℕ) (decodes : List ℕ → Option R) → Law c writes decodes
-law-stands c writes decodes good kind es k w happened =
+-- what a configuration that is not refused has
+pub record Sound (c : Config) : Type 0 where
+  pub n : 0 < c .n
+  pub page : 0 < c .page
+  pub z : 0 < c .z
+
+pub sound : (c : Config) → badConfig c ≡ false → Sound c
+sound c good =
     let a = or-parts (eqb (c .n) 0) _ good in
     let b = or-parts (eqb (c .page) 0) _ (a .1) in
     let d = or-parts (eqb (c .z) 0) _ (b .1) in
     let np = eqb-false (c .n) 0 (a .0) in
     let pp = eqb-false (c .page) 0 (b .0) in
     let zp = eqb-false (c .z) 0 (d .0) in
-    let h = holds c writes decodes (omega arith) (omega arith) (omega arith) kind es k w happened in
+    record { n = omega arith; page = omega arith; z = omega arith }
+
+pub law-stands : {R : Type 0} (c : Config) (writes : R → List ℕ) (decodes : List ℕ → Option R) → Law c writes decodes
+law-stands c writes decodes good kind es k w happened =
+    let s = sound c good in
+    let h = holds c writes decodes (s .n) (s .z) (s .page) kind es k w happened in
     (h .ledger, h .agrees)

@@ -30,4 +30,5 @@ pub mod Growing
 pub mod States
 pub mod Events
 pub mod Law
+pub mod InLine
 pub mod Useless

@@ -1,5 +1,5 @@
 -- What happens to a log and its store, call by call, when every call follows its rule; and the law: it agrees with the ledger.
-use Prim.Native.Nat.{ℕ, _*_, min}
+use Prim.Native.Nat.{ℕ, _+_, _*_, min}
 use mathlib.Core.Path.{_≡_}
 use mathlib.Core.Bool.{Bool, true, false, cond}
 use mathlib.Core.List.{List, [], _∷_, map}
@@ -7,7 +7,7 @@ use lib.ListN.{length}
 use lib.Dec.{ltb}
 use Rattle.std.specs.declared.option.Option.{Option}
 use Rattle.std.specs.declared.option.Option.the-variants.{None, Some}
-use Rattle.store.specs.Disk.{Disk, View, Restarted, New}
+use Rattle.store.specs.Disk.{Disk, View, numbers, Restarted, New}
 use Rattle.store.specs.Laws.{Lawful}
 use Rattle.rules.specs.Rules.{Config, MAX, badConfig, Fault, ItemPruned, ItemOutOfRange, SizeOverflow, OffsetOverflow, EmptyAppend, Corruption, Layout, NotRising, NoSpace, Codec}
 use Rattle.rules.specs.Rules.{Plan, answer, refuse, ask, call, refuseIf, Outcome, answered, refused, stopped, Follows}
@@ -68,6 +68,11 @@ logAfter l (answered m) = m
 logAfter l (refused f) = cond (isLayout f) over (onLog l over over opened trimmed staged running)
 logAfter l (stopped s y) = over
 
+abbrev pub Consecutive : List ℕ → Type 0
+Consecutive [] = Unit {0}
+Consecutive (x ∷ []) = Unit {0}
+Consecutive (x ∷ (y ∷ ys)) = (y ≡ x + 1) × Consecutive (y ∷ ys)
+
 module _ {R : Type 0} where
   abbrev pub answerOf : List R → Outcome (Unit {0}) → Answer R
   answerOf rs (answered u) = Gave rs
@@ -125,6 +130,15 @@ module _ {R : Type 0} (c : Config) (writes : R → List ℕ) (decodes : List ℕ
   abbrev pub Law : Type 0
   Law = badConfig c ≡ false → Kind → (es : List (Event R)) (l : Log) (w : View) → Happened es l w → (m : Ledger R) × Agrees c es w m
 
+  -- whatever was done, refused or stopped, the blobs are numbered one after the other, unless a clear is staged
+  pub record InLine : Type 0 where
+    pub unstaged : (es : List (Event R)) (l : Log) (w : View) → Happened es l w → w .disk .saved .target ≡ None → Consecutive (numbers (w .disk .blobs))
+    -- so a truncate leaves them, wherever it stops
+    pub truncated : (es : List (Event R)) (m : ℕ) (e : End) (s : Option (ℕ × ℕ)) (l : Log) (w : View) → Happened (Called (Truncate m) e s ∷ es) l w → Consecutive (numbers (w .disk .blobs))
+
 -- the law of every configuration and every kind of record
 abbrev pub LawFor : Type 0 → Type 0
 LawFor R = (c : Config) (writes : R → List ℕ) (decodes : List ℕ → Option R) → Law c writes decodes
+
+abbrev pub InLineFor : Type 0 → Type 0
+InLineFor R = (c : Config) (writes : R → List ℕ) (decodes : List ℕ → Option R) → badConfig c ≡ false → Kind c writes decodes → InLine c writes decodes

@@ -1,10 +1,17 @@
 // The ledger and its promises, and the law: every history that the rules allow agrees with it.
-ghost use Rattle.ledger.specs.Runs.{LawFor};
+ghost use Rattle.ledger.specs.Runs.{LawFor, InLineFor};
 ghost use Rattle.ledger.specs.Useless.{Useless, Taken};
 
 // The law, for records of any type.
 pub fn law_stands<R>() -> u8
     ensures { λ _. ⌜ LawFor R ⌝ }
+{
+    0
+}
+
+// Blobs are numbered one after the other wherever a truncate stops.
+pub fn in_line_stands<R>() -> u8
+    ensures { λ _. ⌜ InLineFor R ⌝ }
 {
     0
 }
