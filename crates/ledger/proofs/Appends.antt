@@ -1,41 +1,29 @@
 -- The running log's append: records in runs, up to the end of a blob.
-use Prim.Native.Nat.{ℕ, zero, suc, _+_, _-_, _*_, _/_, _%_, _≤_, _<_, min, max}
+use Prim.Native.Nat.{ℕ, suc, _+_, _*_, _/_, _%_, _≤_, _<_}
 use mathlib.Core.Path.{_≡_, refl, sym, ap, _∙_, subst}
-use mathlib.Core.Logic.{_⊎_, inl, inr}
-use mathlib.Core.Bool.{Bool, true, false, cond}
+use mathlib.Core.Logic.{inl, inr}
+use mathlib.Core.Bool.{true, false, cond}
 use mathlib.Core.List.{List, [], _∷_, _++_, map}
-use lib.ListN.{length, take, drop}
-use lib.Dec.{eqb, leb, ltb}
+use lib.ListN.{length, take}
 use native.Mathlib.Omega.{arith}
+use native.Mathlib.Nat.{mul-le-mul-right, lt-of-mul-lt-mul-right, mul-add-mod-self-right, mod-self}
 use Rattle.std.proofs.shelf.Ways.{tells}
 use Rattle.std.specs.Joined.{joined}
 use Rattle.std.specs.declared.option.Option.{Option}
 use Rattle.std.specs.declared.option.Option.the-variants.{None, Some}
-use Rattle.store.specs.declared.cause.Cause.{Cause}
-use Rattle.store.specs.declared.keys.Key.{Key}
-use Rattle.store.specs.declared.keys.Key.the-variants.{Hint, Target, Watermark}
-use Rattle.store.specs.Disk.{Blob, Blobs, Disk, View, find, numbers, change, synced, Op, Open, Append, Truncate, Sync, Remove, Put, DropKey, SyncKeys, done, Weakened, Counted, Cut, Does, Refuses, Made}
-use Rattle.store.specs.declared.keys.Keys.{Keys}
-use Rattle.std.proofs.shelf.Tests.{cases-eq, cases-lt, eqb-true}
-use native.Mathlib.Nat.{mul-le-mul-right, le-of-mul-le-mul-right}
-use Rattle.rules.specs.Rules.{MAX, Config, blobOf, aligned, persist}
-use Rattle.rules.specs.Calls.{Running, committing, appending}
-use Rattle.ledger.specs.Ledger.{Ledger, appended}
-use Rattle.ledger.proofs.Blobs.{count, find-change, find-change-same, find-change-other, found-listed, listed-find}
-use Rattle.ledger.proofs.Standing.{first, room, blob-first, blob-is, first-room, first-apart, first-next, room-some, HintFree, HintStands, KeysStand, Standing, Stands, stands, Empty, Staged, Safe, Rows, moved}
-use Rattle.ledger.proofs.Done.{standing-sync, standing-put, standing-drop, standing-keys, standing-open, standing-append, standing-ahead, standing-kept}
-use Rattle.ledger.proofs.Power.{safe-weakened}
-use Rattle.ledger.proofs.Chain.{Chain, Step, Found, chain-append, chain-then, Closed, plain}
-use mathlib.Core.Path.{fun-ext}
+use Rattle.std.proofs.shelf.Tests.{cases-eq, cases-lt, eqb-true, eqb-false}
 use Rattle.std.proofs.shelf.Lists.{take-all, append-nil, append-assoc, length-append, joined-more}
-use Rattle.std.proofs.shelf.Tests.{eqb-false}
 use Rattle.std.proofs.shelf.Bits.{div-add-mod'}
-use native.Mathlib.Nat.{lt-of-mul-lt-mul-right, mul-add-mod-self-right, mod-self}
-use Rattle.store.specs.Disk.{grown, blank, insert}
-use Rattle.ledger.specs.Ledger.{entered}
-use Rattle.ledger.proofs.Blobs.{find-insert-same, find-insert-other, not-listed}
+use Rattle.store.specs.Disk.{Blob, Disk, find, change, Op, Open, Append, Sync, done, Counted, grown, blank, insert}
+use Rattle.rules.specs.Rules.{MAX, Config, blobOf, aligned}
+use Rattle.rules.specs.Calls.{appending}
+use Rattle.ledger.specs.Ledger.{Ledger, appended, entered}
+use Rattle.ledger.proofs.Blobs.{find-change-same, find-change-other, listed-find, find-insert-same, find-insert-other, not-listed}
+use Rattle.ledger.proofs.Standing.{first, room, blob-first, blob-is, first-room, first-next, Standing, Stands, stands, Safe}
+use Rattle.ledger.proofs.Done.{standing-open, standing-append, standing-ahead}
+use Rattle.ledger.proofs.Chain.{Chain, Step, plain}
 use Rattle.ledger.proofs.Calculus.{entered-below, joined-length}
-use Rattle.ledger.proofs.Runs.{Tied, Inside, SafeFor, safe-closed, tied-sync, tied-owed, end-top, safe-same}
+use Rattle.ledger.proofs.Runs.{Tied, Inside, SafeFor, tied-owed}
 
 -- the ledger ------------------------------------------------------------------------------------
 

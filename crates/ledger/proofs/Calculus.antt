@@ -1,26 +1,23 @@
 -- Each writing call keeps the invariant, under its side condition.
-use Prim.Native.Nat.{ℕ, zero, suc, _+_, _-_, _*_, _/_, _%_, _≤_, _<_, min, max}
+use Prim.Native.Nat.{ℕ, zero, suc, _+_, _-_, _*_, _≤_, _<_, min}
 use mathlib.Core.Path.{_≡_, refl, sym, ap, _∙_, subst}
 use mathlib.Core.Logic.{_⊎_, inl, inr}
-use mathlib.Core.Bool.{Bool, true, false, cond}
 use mathlib.Core.List.{List, [], _∷_, _++_}
 use lib.ListN.{length, take, drop, length-append, length-take}
-use lib.Dec.{eqb}
 use native.Mathlib.Omega.{arith}
-use native.Mathlib.Nat.{mul-le-mul-right, le-of-mul-le-mul-right, lt-of-mul-lt-mul-right}
+use native.Mathlib.Nat.{mul-le-mul-right, le-of-mul-le-mul-right}
+use lib.Seq.{drop-append-add}
 use Rattle.std.proofs.shelf.Tests.{cases-eq, cases-lt}
 use Rattle.std.proofs.shelf.Ways.{tells}
 use Rattle.std.proofs.shelf.Lists.{take-take, drop-take, take-at, take-append-le}
-use lib.Seq.{drop-append-add, drop-append-seam}
 use Rattle.std.specs.declared.option.Option.{Option}
-use Rattle.std.specs.declared.option.Option.the-variants.{None, Some}
-use Rattle.store.specs.Disk.{Blob, Blobs, Disk, find, numbers, change, insert, without, blank, synced, cutTo, grown, settled, Weaker, Weakened}
-use Rattle.store.specs.declared.keys.Keys.{Keys}
+use Rattle.std.specs.declared.option.Option.the-variants.{Some}
+use Rattle.std.specs.Joined.{joined}
+use Rattle.store.specs.Disk.{Blob, Blobs, find, numbers, change, insert, without, blank, synced, cutTo, grown, settled, Weaker, Weakened}
 use Rattle.rules.specs.Rules.{MAX, Config}
 use Rattle.ledger.specs.Ledger.{Ledger, entered, appended}
-use Rattle.std.specs.Joined.{joined}
-use Rattle.ledger.proofs.Blobs.{count, looked, never, find-change, find-change-same, find-change-other, numbers-change, listed-find, found-listed, not-listed, find-insert-other, find-insert-same, numbers-insert-top, find-without-other, numbers-without-low, numbers-without-top, numbers-settled, find-settled, weakened-numbers, weakened-find, weakened-found, weaker-self}
-use Rattle.ledger.proofs.Standing.{first, room, Lowest, first-room, first-next, first-low, start-first, first-apart, room-some, Fits, Reached, Held, Rows, moved, first-later, room-later, first-is}
+use Rattle.ledger.proofs.Blobs.{count, find-change, find-change-other, numbers-change, listed-find, found-listed, not-listed, find-insert-other, find-insert-same, numbers-insert-top, find-without-other, numbers-without-low, numbers-without-top, numbers-settled, find-settled, weakened-numbers, weakened-find, weaker-self}
+use Rattle.ledger.proofs.Standing.{first, room, first-room, first-next, first-apart, Fits, Reached, Held, Rows, moved, first-later, room-later, first-is}
 
 -- a window of z bytes at a, of lists that agree up to s
 pub window : (z a s : ℕ) (xs ys : List ℕ) → a + z ≤ s → take s ys ≡ take s xs → take z (drop a ys) ≡ take z (drop a xs)

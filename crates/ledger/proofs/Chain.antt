@@ -1,21 +1,11 @@
 -- Lists of writing calls: what holds where they are all done, and wherever they stop.
-use Prim.Native.Nat.{ℕ, zero, suc, _+_, _-_, _*_, _/_, _%_, _≤_, _<_, min, max}
-use mathlib.Core.Path.{_≡_, refl, sym, ap, _∙_, subst}
+use Prim.Native.Nat.{ℕ, _≤_}
+use mathlib.Core.Path.{_≡_, refl}
 use mathlib.Core.Logic.{_⊎_, inl, inr}
-use mathlib.Core.Bool.{Bool, true, false, cond}
-use mathlib.Core.List.{List, [], _∷_, _++_, map}
-use lib.ListN.{length, take, drop}
-use lib.Dec.{eqb, leb, ltb}
-use native.Mathlib.Omega.{arith}
-use Rattle.std.proofs.shelf.Ways.{tells}
-use Rattle.std.specs.Joined.{joined}
-use Rattle.std.specs.declared.option.Option.{Option}
-use Rattle.std.specs.declared.option.Option.the-variants.{None, Some}
-use Rattle.store.specs.declared.cause.Cause.{Cause}
-use Rattle.store.specs.declared.keys.Key.{Key}
-use Rattle.store.specs.declared.keys.Key.the-variants.{Hint, Target, Watermark}
-use Rattle.store.specs.Disk.{Blob, Blobs, Disk, View, find, numbers, change, synced, Op, Open, Append, Truncate, Sync, Remove, Put, DropKey, SyncKeys, done, Weakened, Counted, Cut, Does, Refuses, Made}
-use Rattle.store.specs.declared.keys.Keys.{Keys}
+use mathlib.Core.List.{List, [], _∷_, _++_}
+use lib.ListN.{length}
+use Rattle.std.specs.declared.option.Option.the-variants.{Some}
+use Rattle.store.specs.Disk.{Blob, Blobs, Disk, find, Op, Open, Append, Truncate, Sync, Remove, Put, DropKey, SyncKeys, done, Weakened, Counted}
 
 abbrev pub Found : Blobs → ℕ → Type 0
 Found bs b = (x : Blob) × (find bs b ≡ Some x)

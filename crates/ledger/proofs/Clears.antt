@@ -1,37 +1,25 @@
 -- A clear: staged by one save of the keys, and carried out, again and again if need be.
-use Prim.Native.Nat.{ℕ, zero, suc, _+_, _-_, _*_, _/_, _%_, _≤_, _<_, min, max}
-use mathlib.Core.Path.{_≡_, refl, sym, ap, _∙_, subst}
+use Prim.Native.Nat.{ℕ, _+_, _*_, _/_, _%_, _≤_, _<_}
+use mathlib.Core.Path.{_≡_, refl, sym, ap, _∙_}
 use mathlib.Core.Logic.{_⊎_, inl, inr}
 use mathlib.Core.Bool.{Bool, true, false, cond}
-use mathlib.Core.List.{List, [], _∷_, _++_, map}
-use lib.ListN.{length, take, drop}
-use lib.Dec.{eqb, leb, ltb}
+use mathlib.Core.List.{List, [], _∷_, _++_}
+use lib.ListN.{length}
+use lib.Dec.{eqb}
 use native.Mathlib.Omega.{arith}
+use native.Mathlib.Nat.{lt-div-mul-add, div-mul-le-self}
 use Rattle.std.proofs.shelf.Ways.{tells}
-use Rattle.std.specs.Joined.{joined}
 use Rattle.std.specs.declared.option.Option.{Option}
 use Rattle.std.specs.declared.option.Option.the-variants.{None, Some}
-use Rattle.store.specs.declared.cause.Cause.{Cause}
-use Rattle.store.specs.declared.keys.Key.{Key}
+use Rattle.std.proofs.shelf.Tests.{cases-eq, eqb-true, eq-eqb, cond-true}
 use Rattle.store.specs.declared.keys.Key.the-variants.{Hint, Target, Watermark}
-use Rattle.store.specs.Disk.{Blob, Blobs, Disk, View, find, numbers, change, synced, Op, Open, Append, Truncate, Sync, Remove, Put, DropKey, SyncKeys, done, Weakened, Counted, Cut, Does, Refuses, Made}
+use Rattle.store.specs.Disk.{Blob, Blobs, Disk, find, numbers, Open, Remove, Put, DropKey, SyncKeys, done, without, insert, blank}
 use Rattle.store.specs.declared.keys.Keys.{Keys}
-use Rattle.std.proofs.shelf.Tests.{cases-eq, cases-lt, eqb-true}
-use native.Mathlib.Nat.{mul-le-mul-right, le-of-mul-le-mul-right}
-use Rattle.rules.specs.Rules.{Config, blobOf, aligned, persist}
-use Rattle.rules.specs.Calls.{Running, committing, appending}
-use Rattle.ledger.specs.Ledger.{Ledger, appended}
-use Rattle.ledger.proofs.Blobs.{count, find-change, find-change-same, find-change-other, found-listed}
-use Rattle.ledger.proofs.Standing.{first, room, blob-first, blob-is, first-room, first-apart, first-next, room-some, HintFree, HintStands, KeysStand, Standing, Stands, stands, Empty, Staged, Safe, Rows, moved}
-use Rattle.ledger.proofs.Done.{standing-sync, standing-put, standing-drop, standing-keys, standing-open, standing-append, standing-ahead, standing-kept}
-use Rattle.ledger.proofs.Power.{safe-weakened}
-use Rattle.ledger.proofs.Chain.{Chain, Found, chain-append, chain-then, Closed, plain}
-use native.Mathlib.Nat.{lt-div-mul-add, div-mul-le-self}
-use Rattle.store.specs.Disk.{without, insert, blank, keyed}
-use Rattle.rules.specs.Rules.{MAX, staging, clearing, isAbove}
-use Rattle.ledger.proofs.Standing.{Lowest, first-low, Fits}
-use Rattle.std.proofs.shelf.Tests.{eq-eqb, cond-true}
-use Rattle.ledger.proofs.Runs.{SafeFor, safe-closed, safe-same, safe-put, safe-drop}
+use Rattle.rules.specs.Rules.{Config, blobOf, aligned, persist, MAX, staging, clearing, isAbove}
+use Rattle.ledger.specs.Ledger.{Ledger}
+use Rattle.ledger.proofs.Standing.{first, HintStands, Standing, stands, Staged, Safe, Rows, moved, Lowest, first-low}
+use Rattle.ledger.proofs.Chain.{Chain, plain}
+use Rattle.ledger.proofs.Runs.{SafeFor, safe-put, safe-drop}
 
 without-first : (x : ℕ × Blob) (xs : Blobs) → without (x .0) (x ∷ xs) ≡ xs
 without-first x xs = cond-true (eqb (x .0) (x .0)) xs (x ∷ without (x .0) xs) (eq-eqb (x .0) (x .0) refl)

@@ -1,23 +1,19 @@
 -- Each writing call keeps the invariant of a disk.
-use Prim.Native.Nat.{ℕ, zero, suc, _+_, _-_, _*_, _/_, _%_, _≤_, _<_, min, max}
-use mathlib.Core.Path.{_≡_, refl, sym, ap, _∙_, subst}
-use mathlib.Core.Logic.{_⊎_, inl, inr}
-use mathlib.Core.Bool.{Bool, true, false, cond}
-use mathlib.Core.List.{List, [], _∷_, _++_}
-use lib.ListN.{length, take, drop}
-use lib.Dec.{eqb, leb, ltb}
+use Prim.Native.Nat.{ℕ, suc, _+_, _*_, _%_, _≤_, _<_}
+use mathlib.Core.Path.{_≡_, _∙_}
+use mathlib.Core.Logic.{inl, inr}
+use mathlib.Core.List.{List}
+use lib.ListN.{length, take}
 use native.Mathlib.Omega.{arith}
 use native.Mathlib.Nat.{mul-add-mod-self-right, mod-self}
-use Rattle.std.proofs.shelf.Ways.{tells}
 use Rattle.std.specs.Joined.{joined}
 use Rattle.std.specs.declared.option.Option.{Option}
-use Rattle.std.specs.declared.option.Option.the-variants.{None, Some}
+use Rattle.std.specs.declared.option.Option.the-variants.{Some}
 use Rattle.store.specs.declared.keys.Key.{Key}
-use Rattle.store.specs.Disk.{Blob, Blobs, Disk, find, numbers, Op, Open, Append, Truncate, Sync, Remove, Put, DropKey, SyncKeys, done}
-use Rattle.store.specs.declared.keys.Keys.{Keys}
+use Rattle.store.specs.Disk.{Blob, Disk, find, Open, Append, Truncate, Sync, Remove, Put, DropKey, SyncKeys, done}
 use Rattle.rules.specs.Rules.{Config, MAX}
 use Rattle.ledger.specs.Ledger.{Ledger, appended}
-use Rattle.ledger.proofs.Standing.{first, room, HintFree, HintStands, KeysStand, Standing, Empty, Staged, Safe, Rows, moved}
+use Rattle.ledger.proofs.Standing.{first, room, HintStands, KeysStand, Standing, moved}
 use Rattle.ledger.proofs.Calculus.{rows-synced, rows-cut, rows-opened, rows-without-top, rows-without-low, rows-appended, rows-kept, rows-kept-less, rows-ahead}
 
 -- the saved hint, when the start moves up to a blob's first position

@@ -1,65 +1,33 @@
 -- A log with no blobs.
-use Prim.Native.Nat.{ℕ, zero, suc, _+_, _-_, _*_, _/_, _%_, _≤_, _<_, min, max}
+use Prim.Native.Nat.{ℕ, _+_, _-_, _*_, _/_, _%_, _≤_, _<_, min}
 use mathlib.Core.Path.{_≡_, refl, sym, ap, _∙_, subst}
-use mathlib.Core.Logic.{_⊎_, inl, inr}
-use mathlib.Core.Bool.{Bool, true, false, cond, not, _&&_, _||_}
+use mathlib.Core.Logic.{inl, inr}
+use mathlib.Core.Bool.{Bool, true, false, cond, not, _&&_}
 use mathlib.Core.List.{List, [], _∷_, _++_, map, reverse}
-use lib.ListN.{length, take, drop}
+use lib.ListN.{length}
 use lib.Dec.{eqb, leb, ltb}
 use native.Mathlib.Omega.{arith}
-use Rattle.std.proofs.shelf.Ways.{tells}
+use native.Mathlib.Nat.{div-mul-le-self, zero-mod}
 use Rattle.std.specs.Joined.{joined}
 use Rattle.std.specs.declared.option.Option.{Option}
 use Rattle.std.specs.declared.option.Option.the-variants.{None, Some}
-use Rattle.store.specs.declared.cause.Cause.{Cause}
-use Rattle.store.specs.declared.keys.Key.{Key}
-use Rattle.store.specs.declared.keys.Key.the-variants.{Hint, Target, Watermark}
-use Rattle.store.specs.Disk.{Blob, Blobs, Disk, View, find, numbers, change, synced, Op, Open, Append, Truncate, Sync, Remove, Put, DropKey, SyncKeys, done, Weakened, Counted, Cut, Does, Refuses, Made}
+use Rattle.std.proofs.shelf.Tests.{eqb-true, cases-bool, cond-true, cond-false, eq-eqb, le-ltb, and-parts, and-right, and-left, not-from-true, le-leb, lt-leb}
+use Rattle.std.proofs.shelf.Lists.{append-nil}
+use Rattle.store.specs.declared.keys.Key.the-variants.{Hint, Watermark}
+use Rattle.store.specs.Disk.{Blobs, Disk, find, numbers, Op, Open, Append, Sync, Remove, Put, DropKey, SyncKeys, done, doneAll, blank, insert}
 use Rattle.store.specs.declared.keys.Keys.{Keys}
-use Rattle.std.proofs.shelf.Tests.{cases-eq, cases-lt, eqb-true}
-use native.Mathlib.Nat.{mul-le-mul-right, le-of-mul-le-mul-right}
-use Rattle.rules.specs.Rules.{Config, blobOf, aligned, persist}
-use Rattle.rules.specs.Calls.{Running, committing, appending}
-use Rattle.ledger.specs.Ledger.{Ledger, appended}
-use Rattle.ledger.proofs.Blobs.{count, find-change, find-change-same, find-change-other, found-listed}
-use Rattle.ledger.proofs.Standing.{first, room, blob-first, blob-is, first-room, first-apart, first-next, room-some, HintFree, HintStands, KeysStand, Standing, Stands, stands, Empty, Staged, Safe, Rows, moved}
-use Rattle.ledger.proofs.Done.{standing-sync, standing-put, standing-drop, standing-keys, standing-open, standing-append, standing-ahead, standing-kept}
-use Rattle.ledger.proofs.Power.{safe-weakened}
-use Rattle.ledger.proofs.Chain.{Chain, Found, chain-append, chain-then, Closed, plain}
-use lib.ListN.{length-take}
-use Rattle.std.proofs.shelf.Bits.{le-div, div-below}
-use native.Mathlib.Nat.{lt-div-mul-add, div-mul-le-self}
-use Rattle.std.proofs.shelf.Tests.{cases-bool, cond-true, cond-false, cond-both, eq-eqb, ne-eqb, lt-ltb, le-ltb, ltb-true, ltb-false, and-parts, and-right, and-left, and-from, or-right, not-from-true, not-from-false}
-use Rattle.store.specs.Disk.{cutTo, without}
-use Rattle.rules.specs.Rules.{firstIn}
+use Rattle.rules.specs.Rules.{Config, blobOf, aligned, persist, firstIn, MAX, Plan, answer, calls, refuseIf, ItemPruned, ask, Layout, SizeOverflow}
+use Rattle.rules.specs.Calls.{Running, keysFirst, same, has, anchored, anchor, goes, lastBlob, truncating, openIf, publish-rule, upOneByOne, truncate-rule, truncated, trimmed-append-rule, trimmed-sync-rule, trimmed-prune-rule}
 use Rattle.rules.specs.Open.{Opened, noEdge}
-use Rattle.store.specs.Disk.{doneAll}
-use Rattle.rules.specs.Calls.{keysFirst, same, has, from, upTo, anchored, anchor, goes, lastBlob, truncating, openIf}
+use Rattle.ledger.specs.Ledger.{Ledger, appended, entry, pruneTo, Prune}
+use Rattle.ledger.proofs.Standing.{first, HintFree, Standing, stands, Empty, Safe, moved, first-low}
+use Rattle.ledger.proofs.Chain.{Chain, chain-append, chain-then, plain}
 use Rattle.ledger.proofs.Truncates.{chain-end}
-use Rattle.ledger.proofs.Blobs.{find-without-other, find-insert-other, listed-find}
-use Rattle.ledger.proofs.Standing.{first-is, start-first, Held, Reached}
-use Rattle.ledger.proofs.Calculus.{rows-far, rows-kept, rows-kept-less}
-use Rattle.ledger.proofs.Done.{standing-truncate, standing-remove-top}
-use Rattle.ledger.proofs.Chain.{chain-stop}
-use Rattle.ledger.proofs.Runs.{Tied, tied-paid, Inside, SafeFor, safe-closed, Persisted, persist-rows}
-use Rattle.ledger.proofs.Trims.{SafeTo}
-use Rattle.ledger.proofs.Appends.{tied-open}
-use Rattle.ledger.proofs.Rows.{has-in, has-above, from-row, from-above, upTo-all, upTo-row, upTo-next, reverse-more}
-use native.Mathlib.Nat.{zero-mod, zero-div}
-use Rattle.store.specs.Disk.{blank, insert}
-use Rattle.rules.specs.Rules.{MAX, Plan, answer, refuse, call, calls, refuseIf, ItemPruned}
-use Rattle.rules.specs.Calls.{publish-rule}
-use Rattle.ledger.proofs.Standing.{Lowest, first-low}
-use Rattle.ledger.proofs.Runs.{safe-same, safe-put, safe-drop}
+use Rattle.ledger.proofs.Runs.{Tied, SafeFor, safe-same, safe-put, safe-drop}
 use Rattle.ledger.proofs.Clears.{rows-blank, one-found}
 use Rattle.ledger.proofs.Plans.{Leads, leads-unless, leads-calls}
-use Rattle.std.proofs.shelf.Tests.{le-leb, lt-leb}
-use Rattle.rules.specs.Rules.{ask, Layout, SizeOverflow}
-use Rattle.rules.specs.Calls.{upOneByOne, truncate-rule, truncated, trimmed-append-rule, trimmed-sync-rule, trimmed-prune-rule}
-use Rattle.ledger.specs.Ledger.{entry, pruneTo, Prune}
 use Rattle.ledger.proofs.Trimmeds.{Trim, KeptAll, safe-ahead, in-blob}
 use Rattle.ledger.proofs.Recovers.{Trim-as, Run-as}
-use Rattle.std.proofs.shelf.Lists.{append-nil}
 
 -- a disk with no blobs, whose keys say so
 pub record Blank {R : Type 0} (c : Config) (l : Ledger R) (e : Disk) : Type 0 where

@@ -1,22 +1,22 @@
 -- Each call on the log in hand: done as the ledger enters it, refused as it must be, or stopped with a ledger that fits.
-use Prim.Native.Nat.{ℕ, _+_, _*_, _/_, _%_, _≤_, _<_, min}
+use Prim.Native.Nat.{ℕ, _+_, _*_, _/_, _≤_, _<_, min}
 use mathlib.Core.Path.{_≡_, refl, sym, ap, _∙_, subst}
 use mathlib.Core.Logic.{_⊎_, inl, inr}
-use mathlib.Core.Bool.{Bool, true, false, cond}
+use mathlib.Core.Bool.{Bool, true, false}
 use mathlib.Core.List.{List, [], _∷_, map}
 use lib.ListN.{length, length-map}
 use lib.Dec.{eqb, leb, ltb}
 use native.Mathlib.Omega.{arith}
 use Rattle.std.proofs.shelf.Bits.{div-add-mod'}
-use Rattle.std.proofs.shelf.Tests.{cond-true, cond-false, eqb-true, eqb-false, eq-eqb, ne-eqb, leb-true, leb-false, ltb-true, ltb-false, le-ltb, lt-ltb, le-leb, lt-leb}
+use Rattle.std.proofs.shelf.Tests.{cond-true, cond-false, eqb-false, leb-true, leb-false, ltb-false, le-ltb, lt-ltb}
 use Rattle.std.specs.declared.option.Option.{Option}
 use Rattle.std.specs.declared.option.Option.the-variants.{None, Some}
-use Rattle.store.specs.Disk.{Blobs, Disk, Weakened}
-use Rattle.rules.specs.Rules.{Config, MAX, Plan, Fault, answer, refuse, ask, call, calls, refuseIf, ItemPruned, SizeOverflow, EmptyAppend, NoSpace}
+use Rattle.store.specs.Disk.{Disk}
+use Rattle.rules.specs.Rules.{Config, MAX, Plan, Fault, answer, refuseIf, ItemPruned, SizeOverflow, EmptyAppend, NoSpace}
 use Rattle.rules.specs.Open.{Opened, open-rule}
 use Rattle.rules.specs.Calls.{Running, truncate-rule, publish-rule, trimmed-append-rule, trimmed-sync-rule, trimmed-prune-rule, stage-rule, complete-rule, append-rule, commit-rule, sync-rule, prune-rule}
-use Rattle.rules.specs.Reads.{when, lacking}
-use Rattle.ledger.specs.Ledger.{Ledger, Call, Open, Append, Truncate, Publish, Prune, Clear, Commit, Sync, Complete, Leave, Hand, offers, gives, refusal, entry, Left, cut, cutting, appended, kept-to-end, pruneTo, lower}
+use Rattle.rules.specs.Reads.{when}
+use Rattle.ledger.specs.Ledger.{Ledger, Call, Open, Append, Truncate, Publish, Prune, Clear, Commit, Sync, Complete, Leave, offers, gives, refusal, entry, Left, cut, cutting, appended, kept-to-end, pruneTo}
 use Rattle.ledger.specs.Runs.{Log, fresh, over, opened, trimmed, staged, running, leaving, isLayout, packed, ruleOf}
 use Rattle.ledger.proofs.Standing.{Staged, Safe, moved}
 use Rattle.ledger.proofs.Power.{safe-weakened}

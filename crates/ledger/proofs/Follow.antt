@@ -1,21 +1,21 @@
 -- A plan that is followed on a store: from where a plan leads to how the call ends.
 use mathlib.Core.Path.{_≡_, refl, sym, ap, _∙_, subst}
 use mathlib.Core.Logic.{_⊎_, inl, inr}
-use mathlib.Core.Bool.{Bool, true, false, cond}
+use mathlib.Core.Bool.{Bool, true, false}
 use mathlib.Core.List.{List, [], _∷_}
 use Prim.Native.Nat.{ℕ}
 use native.Mathlib.Omega.{arith}
-use Rattle.std.specs.declared.option.Option.{Option}
-use Rattle.std.specs.declared.option.Option.the-variants.{None, Some}
-use Rattle.store.specs.declared.cause.Cause.{Cause}
-use Rattle.store.specs.declared.cause.Cause.the-variants.{Power, Range, NoRoom}
-use Rattle.std.specs.Options.{isSome}
-use Rattle.std.proofs.shelf.Tests.{cases-bool, cond-true, cond-false, le-ltb}
 use lib.ListN.{length}
 use lib.Dec.{leb, ltb}
-use Rattle.store.specs.Disk.{Blob, Disk, View, find, Op, Open, Append, Truncate, Sync, Remove, Put, DropKey, SyncKeys, Does, Refuses, refusesUp, atBlob, causeIf, Made, done, Counted}
-use Rattle.ledger.proofs.Blobs.{never}
+use Rattle.std.specs.declared.option.Option.{Option}
+use Rattle.std.specs.declared.option.Option.the-variants.{None, Some}
+use Rattle.std.specs.Options.{isSome}
+use Rattle.std.proofs.shelf.Tests.{cases-bool, cond-true, cond-false, le-ltb}
+use Rattle.store.specs.declared.cause.Cause.{Cause}
+use Rattle.store.specs.declared.cause.Cause.the-variants.{Power, Range, NoRoom}
+use Rattle.store.specs.Disk.{Blob, Disk, View, find, Op, Open, Append, Truncate, Sync, Remove, Put, DropKey, SyncKeys, refusesUp, atBlob, causeIf, Made}
 use Rattle.rules.specs.Rules.{Plan, Fault, answer, refuse, ask, call, Step, Outcome, answered, refused, stopped, Follows}
+use Rattle.ledger.proofs.Blobs.{never}
 use Rattle.ledger.proofs.Chain.{Apt, Closed, not-made}
 use Rattle.ledger.proofs.Plans.{Leads-or}
 

@@ -2,7 +2,7 @@
 use Prim.Native.Nat.{ℕ, zero, suc, _+_, min}
 use mathlib.Core.Path.{_≡_, refl, sym, ap, _∙_, subst}
 use mathlib.Core.Logic.{_⊎_, inl, inr}
-use mathlib.Core.Bool.{Bool, true, false, cond}
+use mathlib.Core.Bool.{Bool, true, false}
 use mathlib.Core.List.{List, [], _∷_, _++_, map, reverse}
 use lib.Dec.{ltb}
 use native.Mathlib.Omega.{arith}
@@ -11,13 +11,13 @@ use Rattle.std.specs.declared.option.Option.{Option}
 use Rattle.std.specs.declared.option.Option.the-variants.{None, Some}
 use Rattle.store.specs.declared.keys.Key.the-variants.{Hint, Target, Watermark}
 use Rattle.store.specs.declared.keys.Keys.{Keys}
-use Rattle.store.specs.Disk.{Blob, Blobs, Disk, View, find, numbers, Op, Open, Append, Truncate, Sync, Remove, Put, DropKey, SyncKeys, done, doneAll, Counted, Refuses}
+use Rattle.store.specs.Disk.{Blob, Blobs, Disk, View, find, numbers, Op, Open, Append, Truncate, Sync, Remove, Put, DropKey, SyncKeys, done, doneAll, Counted}
 use Rattle.rules.specs.Rules.{Config, Plan, Fault, answer, refuse, ask, call, calls, refuseIf, persist, aligned, blobOf, badConfig, ItemPruned, Outcome, Follows}
 use Rattle.rules.specs.Open.{Opened}
 use Rattle.rules.specs.Calls.{truncating, truncated, truncate-rule, keysFirst, anchor, goes, lastBlob}
-use Rattle.ledger.specs.Ledger.{Ledger, Event, Called, End}
-use Rattle.ledger.specs.Ledger as ledger
+use Rattle.ledger.specs.Ledger.{Ledger, Event, Called}
 use Rattle.ledger.specs.Runs.{Log, fresh, over, opened, trimmed, staged, running, leaving, ruleOf, Consecutive, Kind, Happened, InLine, InLineFor}
+use Rattle.ledger.specs.Ledger as ledger
 use Rattle.ledger.proofs.Blobs.{count, never}
 use Rattle.ledger.proofs.Standing.{Safe}
 use Rattle.ledger.proofs.States.{State, Spans, trimmed-spans, state-safe}

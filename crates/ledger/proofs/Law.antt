@@ -1,22 +1,22 @@
 -- The law: every history that the rules allow over a store agrees with the ledger.
-use Prim.Native.Nat.{ℕ, _≤_, _<_}
+use Prim.Native.Nat.{ℕ, _<_}
 use mathlib.Core.Path.{_≡_, refl, sym, ap, _∙_, subst}
 use mathlib.Core.Logic.{_⊎_, inl, inr}
-use mathlib.Core.Bool.{Bool, true, false, cond}
+use mathlib.Core.Bool.{true, false}
 use mathlib.Core.List.{List, [], _∷_}
 use lib.ListN.{length}
-use lib.Dec.{eqb, ltb}
+use lib.Dec.{eqb}
 use native.Mathlib.Omega.{arith}
 use Rattle.std.proofs.shelf.Ways.{tells}
 use Rattle.std.proofs.shelf.Tests.{cases-eq, cond-false, or-parts, eqb-false}
 use Rattle.std.specs.declared.option.Option.{Option}
 use Rattle.std.specs.declared.option.Option.the-variants.{None, Some}
-use Rattle.store.specs.Disk.{Blob, Blobs, Disk, View, find, Restarted, New}
+use Rattle.store.specs.Disk.{Blob, Blobs, View, find, Restarted}
 use Rattle.store.specs.Laws.{AllWhole, Lawful}
-use Rattle.rules.specs.Rules.{Config, MAX, badConfig, Plan, Outcome, answered, refused, stopped, Follows}
+use Rattle.rules.specs.Rules.{Config, badConfig, Outcome}
 use Rattle.ledger.specs.Ledger.{Ledger, first, Call, Open, Append, Truncate, Publish, Prune, Clear, Commit, Sync, Complete, Leave, End, Done, Refused, Stopped, Event, Restart, Called, Read, offers, after, inHand, Ends, shown, Agrees}
+use Rattle.ledger.specs.Runs.{Log, fresh, over, opened, trimmed, staged, running, spanOf, isLayout, endOf, logAfter, Happened, Kind, Law}
 use Rattle.ledger.specs.Ledger as hands
-use Rattle.ledger.specs.Runs.{Log, fresh, over, opened, trimmed, staged, running, spanOf, isLayout, endOf, logAfter, ruleOf, Happened, Kind, Law}
 use Rattle.ledger.proofs.Blobs.{never}
 use Rattle.ledger.proofs.Power.{safe-restarted, restart-falls, new-rests}
 use Rattle.ledger.proofs.Follow.{Answered, Turned, Halted, follows-leads}

@@ -2,31 +2,27 @@
 use Prim.Native.Nat.{ℕ, zero, suc, _+_, _-_, _*_, _/_, _%_, _≤_, _<_, min, max}
 use mathlib.Core.Path.{_≡_, refl, sym, ap, _∙_, subst}
 use mathlib.Core.Logic.{_⊎_, inl, inr}
-use mathlib.Core.Bool.{Bool, true, false, cond, not, _&&_, _||_}
-use mathlib.Core.List.{List, [], _∷_, _++_, map, reverse}
-use lib.ListN.{length, take, drop, length-take}
+use mathlib.Core.Bool.{Bool, true, false, cond, _||_}
+use mathlib.Core.List.{List, [], _∷_, _++_, reverse}
+use lib.ListN.{length}
 use lib.Dec.{eqb, leb, ltb}
 use native.Mathlib.Omega.{arith}
-use native.Mathlib.Nat.{mul-le-mul-right, le-of-mul-le-mul-right, mul-div-cancel}
+use native.Mathlib.Nat.{mul-le-mul-right, mul-le-mul-left, div-eq-of-lt-le, lt-div-mul-add, div-mul-le-self, div-lt-iff-lt-mul}
 use Rattle.std.proofs.shelf.Ways.{tells}
-use Rattle.std.proofs.shelf.Tests.{cases-eq, cases-lt, cases-bool, cond-both, cond-true, cond-false, eq-eqb, ne-eqb, eqb-true, eqb-false, leb-true, leb-false, ltb-true, ltb-false, le-ltb, lt-ltb, le-leb, lt-leb, or-cases, or-from, or-left, or-right, not-from-true}
-use Rattle.std.proofs.shelf.Bits.{le-div, div-below, div-add-mod'}
+use Rattle.std.proofs.shelf.Tests.{cases-eq, cases-lt, cases-bool, cond-both, cond-true, cond-false, eq-eqb, eqb-true, leb-true, leb-false, ltb-true, ltb-false, le-ltb, lt-ltb, or-cases, or-from, or-left, or-right}
+use Rattle.std.proofs.shelf.Bits.{le-div, div-add-mod'}
 use Rattle.std.specs.declared.option.Option.{Option}
 use Rattle.std.specs.declared.option.Option.the-variants.{None, Some}
-use native.Mathlib.Nat.{mul-le-mul-left, div-eq-of-lt-le, lt-div-mul-add, div-mul-le-self, div-lt-iff-lt-mul}
 use Rattle.std.proofs.shelf.Lists.{reverse-append, reverse-reverse, append-assoc, length-append}
-use Rattle.std.specs.Options.{isSome, valueOr}
-use Rattle.store.specs.Disk.{Blob, Blobs, Disk, find, numbers, Op, Truncate, done, cutTo, Counted}
+use Rattle.store.specs.Disk.{Blob, Blobs, Disk, find, numbers}
 use Rattle.store.specs.declared.keys.Keys.{Keys}
-use Rattle.rules.specs.Rules.{Config, MAX, blobOf, firstIn, aligned, Plan, Fault, answer, refuse, ask, call, calls, refuseIf, OffsetOverflow, Corruption, ItemPruned}
-use Rattle.rules.specs.Open.{Opened, noEdge, capacity, walk, walkAll, Walked, examine, examineTwo, valid, passes, acknowledged, below, anyOver, startAt, weigh, open-rule, lowest, edgeAt, orMax, isBelow}
-use Rattle.rules.specs.Open as open-rules
-use Rattle.ledger.specs.Ledger.{Ledger, lower}
-use Rattle.ledger.proofs.Blobs.{count, never, found-listed, listed-find}
-use Rattle.ledger.proofs.Standing.{Still, rows-apart, first, room, first-is, room-is, Lowest, first-room, first-next, first-low, room-some, blob-first, Fits, Rows, KeysStand, HintStands, HintFree, Standing, Stands, Empty, Staged, Safe, moved}
+use Rattle.rules.specs.Rules.{Config, MAX, blobOf, firstIn, aligned, Plan, Fault, refuse, ask, refuseIf, OffsetOverflow, Corruption, ItemPruned}
+use Rattle.rules.specs.Open.{Opened, noEdge, walkAll, Walked, examine, examineTwo, below, anyOver, startAt, weigh, open-rule, lowest, edgeAt, orMax, isBelow}
+use Rattle.ledger.specs.Ledger.{Ledger}
+use Rattle.ledger.proofs.Blobs.{count, never, found-listed}
+use Rattle.ledger.proofs.Standing.{Still, rows-apart, first, room, first-is, Lowest, first-room, first-next, first-low, Fits, Rows, HintStands, Standing, Safe, moved}
 use Rattle.ledger.proofs.Reach.{reachOf, full, reach-from, kept-reach, reach-covers, reach-top}
-use Rattle.ledger.proofs.Chain.{Chain, plain}
-use Rattle.ledger.proofs.Plans.{Leads, leads-unless, leads-calls}
+use Rattle.ledger.proofs.Plans.{Leads, leads-unless}
 use Rattle.ledger.proofs.Walks.{Seen, AllSeen, seen-same, walk-all, rounded, Suspect, Left, examine-leads}
 use Rattle.ledger.proofs.Cuts.{Cuttable}
 

@@ -1,24 +1,15 @@
 -- A lost power and a restart keep the invariant.
-use Prim.Native.Nat.{ℕ, zero, suc, _+_, _-_, _*_, _/_, _%_, _≤_, _<_, min, max}
+use Prim.Native.Nat.{ℕ, _≤_, _<_}
 use mathlib.Core.Path.{_≡_, refl, sym, ap, _∙_, subst}
 use mathlib.Core.Logic.{_⊎_, inl, inr}
-use mathlib.Core.Bool.{Bool, true, false, cond}
-use mathlib.Core.List.{List, [], _∷_, _++_}
-use lib.ListN.{length, take, drop}
-use lib.Dec.{eqb, leb, ltb}
+use mathlib.Core.List.{List, [], _∷_}
 use native.Mathlib.Omega.{arith}
-use native.Mathlib.Nat.{mul-add-mod-self-right, mod-self}
-use Rattle.std.proofs.shelf.Ways.{tells}
-use Rattle.std.specs.Joined.{joined}
-use Rattle.std.specs.declared.option.Option.{Option}
-use Rattle.std.specs.declared.option.Option.the-variants.{None, Some}
-use Rattle.store.specs.declared.keys.Key.{Key}
-use Rattle.store.specs.Disk.{Blob, Blobs, Disk, View, find, numbers, Op, Open, Append, Truncate, Sync, Remove, Put, DropKey, SyncKeys, done, settled, Weaker, Weakened, Counted, Cut, Restarted, New}
+use Rattle.store.specs.Disk.{Blob, Blobs, Disk, View, find, settled, Weakened, Restarted, New}
 use Rattle.store.specs.declared.keys.Keys.{Keys}
 use Rattle.rules.specs.Rules.{Config}
-use Rattle.ledger.specs.Ledger.{Ledger, first, appended, Falls}
+use Rattle.ledger.specs.Ledger.{Ledger, first, Falls}
 use Rattle.ledger.proofs.Blobs.{find-settled}
-use Rattle.ledger.proofs.Standing.{Still, HintFree, HintStands, KeysStand, Standing, Stands, Empty, Staged, Safe, Rows, moved}
+use Rattle.ledger.proofs.Standing.{Still, KeysStand, Stands, Empty, Staged, Safe, Rows, moved}
 use Rattle.ledger.proofs.Calculus.{rows-weakened, rows-settled}
 use Rattle.ledger.proofs.Reach.{reachOf, reach-far, kept-reach, rows-reach}
 

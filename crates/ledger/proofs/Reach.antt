@@ -1,23 +1,21 @@
 -- Where the sound records of a row of blobs end.
-use Prim.Native.Nat.{ℕ, zero, suc, _+_, _-_, _*_, _/_, _%_, _≤_, _<_, min, max}
-use mathlib.Core.Path.{_≡_, refl, sym, ap, _∙_, subst}
-use mathlib.Core.Logic.{_⊎_, inl, inr}
-use mathlib.Core.Bool.{Bool, true, false, cond}
-use mathlib.Core.List.{List, [], _∷_, _++_}
-use lib.ListN.{length, take, drop}
-use lib.Dec.{eqb, leb, ltb}
+use Prim.Native.Nat.{ℕ, zero, suc, _+_, _-_, _*_, _/_, _≤_, _<_}
+use mathlib.Core.Path.{_≡_, refl, sym, ap, _∙_}
+use mathlib.Core.Logic.{inl, inr}
+use mathlib.Core.Bool.{Bool, cond}
+use mathlib.Core.List.{List, [], _∷_}
+use lib.Dec.{leb}
 use native.Mathlib.Omega.{arith}
 use native.Mathlib.Nat.{mul-le-mul-right, le-of-mul-le-mul-right}
 use Rattle.std.proofs.shelf.Tests.{cases-eq, cases-lt, cases-bool, cond-both, cond-true, cond-false, leb-true, leb-false}
 use Rattle.std.proofs.shelf.Ways.{tells}
 use Rattle.std.proofs.shelf.Bits.{le-div, div-below, div-add-mod'}
-use Rattle.std.specs.declared.option.Option.{Option}
-use Rattle.std.specs.declared.option.Option.the-variants.{None, Some}
+use Rattle.std.specs.declared.option.Option.the-variants.{Some}
 use Rattle.store.specs.Disk.{Blob, Blobs, find, numbers}
 use Rattle.rules.specs.Rules.{Config}
 use Rattle.ledger.specs.Ledger.{Ledger}
 use Rattle.ledger.proofs.Blobs.{count, never, found-listed}
-use Rattle.ledger.proofs.Standing.{first, room, Lowest, first-room, first-next, first-low, start-first, first-apart, room-some, Fits, Reached, Held, Rows, moved}
+use Rattle.ledger.proofs.Standing.{first, room, Lowest, first-room, first-next, first-low, first-apart, room-some, Fits, Reached, Rows, moved}
 use Rattle.ledger.proofs.Calculus.{rows-far}
 
 abbrev pub full : Config → ℕ → ℕ × Blob → Bool

@@ -1,16 +1,15 @@
 -- Reads: every position of the span reads the record that was last handed in for it, and every other is denied as the ledger says.
-use Prim.Native.Nat.{ℕ, zero, suc, _+_, _-_, _*_, _/_, _%_, _≤_, _<_, min, max}
+use Prim.Native.Nat.{ℕ, suc, _+_, _-_, _*_, _/_, _≤_, _<_}
 use mathlib.Core.Path.{_≡_, refl, sym, ap, _∙_, subst}
 use mathlib.Core.Logic.{_⊎_, inl, inr}
 use mathlib.Core.Bool.{Bool, true, false, cond}
 use mathlib.Core.List.{List, [], _∷_, _++_, map}
 use lib.ListN.{length, take, drop}
-use lib.Dec.{eqb, leb, ltb}
+use lib.Dec.{leb, ltb}
 use lib.Seq.{take-append-le}
 use native.Mathlib.Omega.{arith}
-use native.Mathlib.Nat.{mul-le-mul-right, lt-div-mul-add, div-mul-le-self}
-use Rattle.std.proofs.shelf.Ways.{tells}
-use Rattle.std.proofs.shelf.Tests.{cases-bool, cond-true, cond-false, le-ltb, leb-false, ltb-false}
+use native.Mathlib.Nat.{lt-div-mul-add, div-mul-le-self}
+use Rattle.std.proofs.shelf.Tests.{cond-false, le-ltb, leb-false, ltb-false}
 use Rattle.std.proofs.shelf.Bits.{le-div, div-below}
 use Rattle.std.proofs.shelf.Lists.{take-all}
 use Rattle.std.specs.Joined.{joined}
@@ -19,17 +18,13 @@ use Rattle.std.specs.declared.option.Option.the-variants.{None, Some}
 use Rattle.std.specs.declared.result.Result.{Result}
 use Rattle.std.specs.declared.result.Result.the-variants.{Ok, Err}
 use Rattle.store.specs.declared.cause.Cause.{Cause}
-use Rattle.store.specs.Disk.{Blob, Blobs, Disk, View, find, numbers}
-use Rattle.store.specs.Ask.{readOf}
-use Rattle.rules.specs.Rules.{Config, MAX, blobOf, firstIn, Fault, Outcome, answered, refused, stopped}
-use Rattle.rules.specs.Reads.{when, falling, outside, lacking, one-denied, many-denied, bytesOf, Copy, copied, Reading, decoded, reading, read-rule, read-many-rule, unless, ended}
-use Rattle.ledger.specs.Ledger.{Ledger, Ask, One, Many, Answer, Gave, Denied, Failed, Reads, denial}
-use Rattle.ledger.specs.Runs.{readBy, told, Kind}
+use Rattle.store.specs.Disk.{Blob, Blobs, View, find}
+use Rattle.rules.specs.Rules.{Config, firstIn, Fault, answered}
+use Rattle.rules.specs.Reads.{when, falling, outside, lacking, bytesOf, Copy, copied, Reading, decoded, reading, unless, ended}
+use Rattle.ledger.specs.Ledger.{Ledger, Ask, One, Many, Reads, denial}
+use Rattle.ledger.specs.Runs.{readBy, told}
 use Rattle.ledger.proofs.Blobs.{listed-find, found-listed}
 use Rattle.ledger.proofs.Standing.{first, room, first-is, first-room, first-apart, Rows, Held}
-use Rattle.ledger.proofs.Calculus.{window}
-use Rattle.ledger.proofs.Cuts.{Cuttable}
-use Rattle.std.specs.Options.{isSome}
 
 -- which positions are inside
 abbrev pub Inside-all : ℕ → ℕ → List ℕ → Type 0

@@ -1,15 +1,15 @@
 -- An open of any store at rest, with any ceiling.
-use Prim.Native.Nat.{ℕ, _+_, _*_, _/_, _%_, _≤_, _<_, min, max}
+use Prim.Native.Nat.{ℕ, _%_, _≤_, _<_, min}
 use mathlib.Core.Path.{_≡_, refl, sym, ap, _∙_, subst}
 use mathlib.Core.Logic.{_⊎_, inl, inr}
-use mathlib.Core.Bool.{Bool, true, false, cond}
-use mathlib.Core.List.{List, [], _∷_, _++_}
-use lib.Dec.{eqb, leb, ltb}
+use mathlib.Core.Bool.{Bool, true, false}
+use mathlib.Core.List.{List, []}
+use lib.Dec.{ltb}
 use native.Mathlib.Omega.{arith}
 use Rattle.std.proofs.shelf.Tests.{cases-bool, cond-true, cond-false, eq-eqb, le-ltb}
 use Rattle.std.specs.declared.option.Option.{Option}
 use Rattle.std.specs.declared.option.Option.the-variants.{None, Some}
-use Rattle.store.specs.Disk.{Blobs, Disk, numbers}
+use Rattle.store.specs.Disk.{Disk, numbers}
 use Rattle.store.specs.declared.keys.Keys.{Keys}
 use Rattle.rules.specs.Rules.{Config, MAX, blobOf, aligned, Plan, Fault, answer, refuse, ask, refuseIf, Corruption, ItemPruned, clearing}
 use Rattle.rules.specs.Open.{Opened, noEdge, weigh, open-rule, edgeAt, orMax, isBelow}
@@ -19,7 +19,7 @@ use Rattle.ledger.proofs.Standing.{Still, KeysStand, HintFree, Stands, stands,
 use Rattle.ledger.proofs.Reach.{reachOf}
 use Rattle.ledger.proofs.Power.{Rest}
 use Rattle.ledger.proofs.Plans.{Leads-or, unrefused, Leads, leads-unless, leads-if, leads-or-calls, leads-as}
-use Rattle.ledger.proofs.Clears.{Cleared, clear-chain}
+use Rattle.ledger.proofs.Clears.{clear-chain}
 use Rattle.ledger.proofs.Empties.{Bare}
 use Rattle.ledger.proofs.Cuts.{Cuttable, cuttable-end}
 use Rattle.ledger.proofs.Recovers.{trim-cuttable}

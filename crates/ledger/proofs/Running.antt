@@ -1,86 +1,31 @@
 -- The rules of the running log, commit, sync and prune, and what every log in hand reads.
-use Prim.Native.Nat.{ℕ, zero, suc, _+_, _-_, _*_, _/_, _%_, _≤_, _<_, min, max}
-use mathlib.Core.Path.{_≡_, refl, sym, ap, _∙_, subst}
-use mathlib.Core.Logic.{_⊎_, inl, inr}
-use mathlib.Core.Bool.{Bool, true, false, cond, not, _&&_, _||_}
-use mathlib.Core.List.{List, [], _∷_, _++_, map, reverse}
-use lib.ListN.{length, take, drop}
-use lib.Dec.{eqb, leb, ltb}
+use Prim.Native.Nat.{ℕ, suc, _+_, _-_, _*_, _/_, _≤_, _<_, min}
+use mathlib.Core.Path.{_≡_, refl, sym, ap, subst}
+use mathlib.Core.Bool.{Bool, true, false}
+use mathlib.Core.List.{List, _++_, map}
+use lib.ListN.{length}
+use lib.Dec.{leb, ltb}
 use native.Mathlib.Omega.{arith}
-use Rattle.std.proofs.shelf.Ways.{tells}
-use Rattle.std.specs.Joined.{joined}
+use native.Mathlib.Nat.{mul-le-mul-right, div-mul-le-self}
 use Rattle.std.specs.declared.option.Option.{Option}
 use Rattle.std.specs.declared.option.Option.the-variants.{None, Some}
-use Rattle.store.specs.declared.cause.Cause.{Cause}
-use Rattle.store.specs.declared.keys.Key.{Key}
-use Rattle.store.specs.declared.keys.Key.the-variants.{Hint, Target, Watermark}
-use Rattle.store.specs.Disk.{Blob, Blobs, Disk, View, find, numbers, change, synced, Op, Open, Append, Truncate, Sync, Remove, Put, DropKey, SyncKeys, done, Weakened, Counted, Cut, Does, Refuses, Made}
-use Rattle.store.specs.declared.keys.Keys.{Keys}
-use Rattle.std.proofs.shelf.Tests.{cases-eq, cases-lt, eqb-true}
-use native.Mathlib.Nat.{mul-le-mul-right, le-of-mul-le-mul-right}
-use Rattle.rules.specs.Rules.{Config, blobOf, aligned, persist}
-use Rattle.rules.specs.Calls.{Running, committing, appending}
-use Rattle.ledger.specs.Ledger.{Ledger, appended}
-use Rattle.ledger.proofs.Blobs.{count, find-change, find-change-same, find-change-other, found-listed}
-use Rattle.ledger.proofs.Standing.{first, room, blob-first, blob-is, first-room, first-apart, first-next, room-some, HintFree, HintStands, KeysStand, Standing, Stands, stands, Empty, Staged, Safe, Rows, moved}
-use Rattle.ledger.proofs.Done.{standing-sync, standing-put, standing-drop, standing-keys, standing-open, standing-append, standing-ahead, standing-kept}
-use Rattle.ledger.proofs.Power.{safe-weakened}
-use Rattle.ledger.proofs.Chain.{Chain, Found, chain-append, chain-then, Closed, plain}
-use lib.ListN.{length-take}
-use Rattle.std.proofs.shelf.Bits.{le-div, div-below}
-use native.Mathlib.Nat.{lt-div-mul-add, div-mul-le-self}
-use Rattle.std.proofs.shelf.Tests.{cases-bool, cond-true, cond-false, cond-both, eq-eqb, ne-eqb, lt-ltb, le-ltb, ltb-true, ltb-false, and-parts, and-right, and-left, and-from, or-right, not-from-true, not-from-false}
-use Rattle.store.specs.Disk.{cutTo, without}
-use Rattle.rules.specs.Rules.{firstIn}
-use Rattle.rules.specs.Open.{Opened, noEdge}
-use Rattle.store.specs.Disk.{insert, doneAll}
-use Rattle.rules.specs.Rules.{MAX}
-use Rattle.rules.specs.Calls.{keysFirst, same, has, from, upTo, isEmpty, anchored, goes, anchor, lastBlob, truncating}
-use Rattle.ledger.proofs.Blobs.{not-listed}
-use Rattle.ledger.proofs.Blobs.{find-without-other, find-insert-other, listed-find}
-use Rattle.ledger.proofs.Standing.{first-is, start-first, Held, Reached}
-use Rattle.ledger.proofs.Calculus.{rows-far, rows-kept, rows-kept-less}
-use Rattle.ledger.proofs.Done.{standing-truncate, standing-remove-top}
-use Rattle.ledger.proofs.Chain.{chain-stop}
-use Rattle.rules.specs.Calls.{upOneByOne}
-use Rattle.ledger.proofs.Blobs.{numbers-insert-top}
-use Rattle.ledger.proofs.Truncates.{insert-here}
-use Rattle.ledger.proofs.Publishes.{sync-rows}
-use Rattle.rules.specs.Calls.{openIf}
-use Rattle.ledger.proofs.Appends.{ahead, run-counted, tied-append, aligned-next}
-use Rattle.ledger.proofs.Prunes.{PruneStops, Pruned, remove-chain}
-use Rattle.ledger.proofs.Runs.{persist-chain, tied-persisted}
-use Rattle.std.proofs.shelf.Tests.{eqb-false}
-use native.Mathlib.Nat.{mul-add-mod-self-right, mod-self}
-use Rattle.ledger.proofs.Runs.{tied-sync, Tied, tied-paid, Inside, SafeFor, safe-closed, Persisted, persist-rows}
-use Rattle.ledger.proofs.Trims.{SafeTo}
-use Rattle.ledger.proofs.Appends.{tied-open}
-use Rattle.std.proofs.shelf.Lists.{append-nil}
-use native.Mathlib.Nat.{lt-of-mul-lt-mul-right, div-eq-of-lt-le, mul-le-mul-left}
-use Rattle.ledger.proofs.Rows.{from-low, has-in, has-above, from-row, from-above, upTo-all, upTo-row, upTo-next, reverse-more}
-use Rattle.rules.specs.Rules.{Plan, answer, refuse, ask, call, calls, refuseIf, ItemPruned, Layout}
-use Rattle.rules.specs.Calls.{truncate-rule, publish-rule, truncated}
-use Rattle.ledger.proofs.Plans.{Leads, leads-unless, leads-calls}
-use Rattle.ledger.proofs.Truncates.{Cut-to, truncate-chain, chain-end}
-use Rattle.ledger.proofs.Publishes.{Ran, ran-chain, raise-chain, in-line}
-use Rattle.ledger.proofs.Trimmeds.{Trim, KeptAll, safe-ahead, trimmed-append-chain, trimmed-sync-done, trimmed-prune-chain}
-use Rattle.ledger.proofs.Recovers.{Trim-as}
-use Rattle.ledger.proofs.Clears.{Cleared, clear-chain, one-found, stage-chain}
-use Rattle.ledger.proofs.Standing.{first-low}
-use Rattle.rules.specs.Rules.{SizeOverflow, clearing, staging}
-use Rattle.store.specs.Disk.{blank}
-use Rattle.rules.specs.Calls.{trimmed-append-rule, trimmed-sync-rule, trimmed-prune-rule, complete-rule, stage-rule, commit-rule, sync-rule}
-use Rattle.ledger.specs.Ledger.{entry, pruneTo, kept-to-end, Prune}
-use Rattle.std.proofs.shelf.Tests.{leb-true, leb-false, lt-leb}
-use Rattle.ledger.proofs.Runs.{commit-chain, sync-chain}
+use Rattle.std.proofs.shelf.Tests.{cond-true, cond-false, cond-both, lt-ltb, le-ltb, leb-true, leb-false}
+use Rattle.std.proofs.shelf.Bits.{div-below}
+use Rattle.store.specs.Disk.{Disk, View, Op, Remove}
+use Rattle.rules.specs.Rules.{Config, blobOf, persist, Plan, answer, calls}
+use Rattle.rules.specs.Calls.{Running, committing, from, commit-rule, sync-rule, prune-rule}
+use Rattle.rules.specs.Open.{Opened}
+use Rattle.ledger.specs.Ledger.{Ledger, entry, Prune}
+use Rattle.ledger.proofs.Blobs.{count}
+use Rattle.ledger.proofs.Standing.{moved, rows-apart}
+use Rattle.ledger.proofs.Chain.{Chain, chain-then}
+use Rattle.ledger.proofs.Prunes.{PruneStops, Pruned, prune-chain}
+use Rattle.ledger.proofs.Runs.{Tied, SafeFor, commit-chain, sync-chain}
+use Rattle.ledger.proofs.Plans.{Leads, leads-calls}
 use Rattle.ledger.proofs.Recovers.{Run-as}
-use Rattle.rules.specs.Calls.{prune-rule}
-use Rattle.ledger.proofs.Prunes.{prune-chain}
 use Rattle.ledger.proofs.Opens.{start-blob}
-use Rattle.ledger.proofs.Standing.{rows-apart}
 use Rattle.ledger.proofs.Cuts.{Cuttable}
 use Rattle.ledger.proofs.Readings.{Good, good}
-use Rattle.ledger.proofs.Follow.{Answered, Halted, follows-leads}
 
 module _ {R : Type 0} (c : Config) (enc : R → List ℕ) (l : Ledger R) (r : Running) (d : Disk) (t : Run-as c enc l r d) where
   abbrev k : Running

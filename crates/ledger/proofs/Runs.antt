@@ -1,31 +1,27 @@
 -- The running log: what ties it to the disk and the ledger, and what its calls leave.
-use Prim.Native.Nat.{ℕ, zero, suc, _+_, _-_, _*_, _/_, _%_, _≤_, _<_, min, max}
+use Prim.Native.Nat.{ℕ, suc, _+_, _*_, _%_, _≤_, _<_}
 use mathlib.Core.Path.{_≡_, refl, sym, ap, _∙_, subst}
 use mathlib.Core.Logic.{_⊎_, inl, inr}
 use mathlib.Core.Bool.{Bool, true, false, cond}
-use mathlib.Core.List.{List, [], _∷_, _++_, map}
-use lib.ListN.{length, take, drop}
-use lib.Dec.{eqb, leb, ltb}
+use mathlib.Core.List.{List, [], _∷_, _++_}
+use lib.ListN.{length}
 use native.Mathlib.Omega.{arith}
-use Rattle.std.proofs.shelf.Ways.{tells}
-use Rattle.std.specs.Joined.{joined}
+use native.Mathlib.Nat.{mul-le-mul-right}
 use Rattle.std.specs.declared.option.Option.{Option}
 use Rattle.std.specs.declared.option.Option.the-variants.{None, Some}
-use Rattle.store.specs.declared.cause.Cause.{Cause}
-use Rattle.store.specs.declared.keys.Key.{Key}
-use Rattle.store.specs.declared.keys.Key.the-variants.{Hint, Target, Watermark}
-use Rattle.store.specs.Disk.{Blob, Blobs, Disk, View, find, numbers, change, synced, Op, Open, Append, Truncate, Sync, Remove, Put, DropKey, SyncKeys, done, Weakened, Counted, Cut, Does, Refuses, Made}
-use Rattle.store.specs.declared.keys.Keys.{Keys}
 use Rattle.std.proofs.shelf.Tests.{cases-eq, cases-lt, eqb-true}
-use native.Mathlib.Nat.{mul-le-mul-right, le-of-mul-le-mul-right}
+use Rattle.store.specs.declared.keys.Key.{Key}
+use Rattle.store.specs.declared.keys.Key.the-variants.{Hint, Watermark}
+use Rattle.store.specs.Disk.{Blob, Disk, find, change, synced, Sync, Put, DropKey, SyncKeys, done}
+use Rattle.store.specs.declared.keys.Keys.{Keys}
 use Rattle.rules.specs.Rules.{Config, blobOf, aligned, persist}
-use Rattle.rules.specs.Calls.{Running, committing, appending}
-use Rattle.ledger.specs.Ledger.{Ledger, appended}
-use Rattle.ledger.proofs.Blobs.{count, find-change, find-change-same, find-change-other, found-listed, listed-find}
-use Rattle.ledger.proofs.Standing.{first, room, blob-first, blob-is, first-room, first-apart, first-next, room-some, HintFree, HintStands, KeysStand, Standing, Stands, stands, Empty, Staged, Safe, Rows, moved}
-use Rattle.ledger.proofs.Done.{standing-sync, standing-put, standing-drop, standing-keys, standing-open, standing-append, standing-ahead, standing-kept}
+use Rattle.rules.specs.Calls.{committing}
+use Rattle.ledger.specs.Ledger.{Ledger}
+use Rattle.ledger.proofs.Blobs.{find-change, find-change-same, find-change-other, found-listed, listed-find}
+use Rattle.ledger.proofs.Standing.{first, room, blob-is, first-room, HintStands, Standing, stands, Safe, Rows, moved}
+use Rattle.ledger.proofs.Done.{standing-sync, standing-kept}
 use Rattle.ledger.proofs.Power.{safe-weakened}
-use Rattle.ledger.proofs.Chain.{Chain, Found, chain-append, chain-then, Closed, plain}
+use Rattle.ledger.proofs.Chain.{Chain, chain-append, chain-then, Closed, plain}
 
 pub record Tied {R : Type 0} (c : Config) (enc : R → List ℕ) (lo more : ℕ) (d : Disk) (l : Ledger R) (owed : Option ℕ) : Type 0 where
   pub stand : Standing c enc lo more d l

@@ -1,20 +1,20 @@
 -- What ties the log in hand and the disk to the ledger, between calls.
 use Prim.Native.Nat.{ℕ, _≤_, _<_}
-use mathlib.Core.Path.{_≡_, refl, sym, ap, _∙_}
+use mathlib.Core.Path.{_≡_, refl, sym, _∙_}
 use mathlib.Core.Logic.{_⊎_, inl, inr}
-use mathlib.Core.Bool.{Bool, true, false, cond}
-use mathlib.Core.List.{List, [], _∷_}
+use mathlib.Core.Bool.{true, cond}
+use mathlib.Core.List.{List}
 use lib.ListN.{length}
 use native.Mathlib.Omega.{arith}
 use Rattle.std.specs.declared.option.Option.{Option}
-use Rattle.std.specs.declared.option.Option.the-variants.{None, Some}
+use Rattle.std.specs.declared.option.Option.the-variants.{Some}
 use Rattle.store.specs.Disk.{Disk, View}
 use Rattle.rules.specs.Rules.{Config}
 use Rattle.rules.specs.Open.{Opened}
 use Rattle.ledger.specs.Ledger.{Ledger, Hand, Ask, Reads, shown}
-use Rattle.ledger.specs.Ledger as hands
 use Rattle.ledger.specs.Runs.{Log, fresh, over, opened, trimmed, staged, running, onLog, spanOf, readBy}
-use Rattle.ledger.proofs.Standing.{Stands, stands, Empty, Staged, Safe}
+use Rattle.ledger.specs.Ledger as hands
+use Rattle.ledger.proofs.Standing.{stands, Staged, Safe}
 use Rattle.ledger.proofs.Power.{Rest, rest-safe}
 use Rattle.ledger.proofs.Cuts.{Cuttable}
 use Rattle.ledger.proofs.Recovers.{Trim-as, Run-as, trim-cuttable}

@@ -1,7 +1,7 @@
 -- Useless histories are rejected, and a useful one is taken.
-use Prim.Native.Nat.{ℕ, _+_, _-_, _*_, _≤_}
+use Prim.Native.Nat.{ℕ}
 use mathlib.Core.Path.{_≡_, refl, sym, ap, subst, _∙_}
-use mathlib.Core.Logic.{_⊎_, inl, inr}
+use mathlib.Core.Logic.{inl, inr}
 use mathlib.Core.Bool.{Bool, true, false, cond, true≢false}
 use mathlib.Core.List.{List, [], _∷_}
 use lib.Dec.{eqb, ltb, leb}
@@ -13,9 +13,9 @@ use Rattle.std.specs.declared.option.Option.the-variants.{None, Some}
 use Rattle.store.specs.declared.cause.Cause.{Cause}
 use Rattle.store.specs.declared.cause.Cause.the-variants.{Power, Missing, Range, Torn, NoRoom}
 use Rattle.store.specs.declared.keys.Key.the-variants.{Hint, Watermark}
-use Rattle.store.specs.Disk.{View, Disk, Blob, Op, DropKey, Put, SyncKeys, Made, Restarted, done, doneAll, find, Refuses, refuses, refusesUp, atBlob, causeIf}
-use Rattle.rules.specs.Rules.{Config, Fault}
-use Rattle.ledger.specs.Ledger.{Ledger, Event, Called, Read, Restart, Open, Append, Commit, Publish, Done, Refused, Stopped, One, Gave, Agrees, entry, refusal, first, bounds}
+use Rattle.store.specs.Disk.{View, Blob, Op, DropKey, Put, SyncKeys, Made, Restarted, done, doneAll, find, Refuses, refusesUp, atBlob, causeIf}
+use Rattle.rules.specs.Rules.{Fault}
+use Rattle.ledger.specs.Ledger.{Ledger, Called, Read, Open, Append, Commit, Publish, Done, Refused, Stopped, One, Gave, Agrees, entry, refusal, first, bounds}
 use Rattle.ledger.specs.Useless.{four, begun, given, Useless, Taken, on, v0, v1, v2, v3, v4, l2}
 use Rattle.ledger.proofs.Blobs.{never}
 

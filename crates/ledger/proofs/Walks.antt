@@ -1,28 +1,27 @@
 -- Opening finds the reach: what is left of the two highest blobs, and the walk over all.
-use Prim.Native.Nat.{ℕ, zero, suc, _+_, _-_, _*_, _/_, _%_, _≤_, _<_, min, max}
+use Prim.Native.Nat.{ℕ, zero, suc, _+_, _-_, _*_, _/_, _≤_, _<_, min}
 use mathlib.Core.Path.{_≡_, refl, sym, ap, _∙_, subst}
 use mathlib.Core.Logic.{_⊎_, inl, inr}
-use mathlib.Core.Bool.{Bool, true, false, cond, not, _&&_, _||_}
-use mathlib.Core.List.{List, [], _∷_, _++_, map, reverse}
-use lib.ListN.{length, take, drop, length-take}
+use mathlib.Core.Bool.{Bool, true, false, not, _&&_}
+use mathlib.Core.List.{List, [], _∷_}
+use lib.ListN.{length, take, length-take}
 use lib.Dec.{eqb, leb, ltb}
 use native.Mathlib.Omega.{arith}
-use native.Mathlib.Nat.{mul-le-mul-right, le-of-mul-le-mul-right, mul-div-cancel}
+use native.Mathlib.Nat.{mul-le-mul-right, mul-div-cancel, lt-div-mul-add}
 use Rattle.std.proofs.shelf.Ways.{tells}
-use Rattle.std.proofs.shelf.Tests.{cases-eq, cases-lt, cases-bool, cond-both, cond-true, cond-false, eq-eqb, ne-eqb, eqb-true, eqb-false, leb-true, leb-false, ltb-true, ltb-false, le-ltb, lt-ltb, le-leb, lt-leb, or-cases, or-parts, and-cases, and-parts, not-from-true}
+use Rattle.std.proofs.shelf.Tests.{cases-lt, cases-bool, cond-both, cond-true, cond-false, eq-eqb, ne-eqb, eqb-true, eqb-false, leb-true, leb-false, ltb-true, le-ltb, or-cases, or-parts, and-cases, and-parts, not-from-true}
 use Rattle.std.proofs.shelf.Bits.{le-div, div-below, div-add-mod'}
-use native.Mathlib.Nat.{lt-div-mul-add}
 use Rattle.std.specs.Options.{isSome}
 use Rattle.std.specs.declared.option.Option.{Option}
 use Rattle.std.specs.declared.option.Option.the-variants.{None, Some}
-use Rattle.store.specs.Disk.{Blob, Blobs, Disk, find, numbers, Op, Truncate, done, cutTo, Counted}
-use Rattle.rules.specs.Rules.{Config, MAX, blobOf, firstIn, Plan, Fault, answer, refuse, ask, call, calls, refuseIf, OffsetOverflow, Corruption}
-use Rattle.rules.specs.Open.{capacity, walk, walkAll, Walked, examine, valid, scanned, limitOf, needed, roundUp, orMax, passes, acknowledged}
+use Rattle.store.specs.Disk.{Blob, Blobs, Disk, find, numbers, Truncate, done, cutTo}
+use Rattle.rules.specs.Rules.{Config, MAX, blobOf, firstIn, Plan, OffsetOverflow, Corruption}
+use Rattle.rules.specs.Open.{capacity, walk, walkAll, examine, valid, scanned, limitOf, needed, roundUp, orMax, passes, acknowledged}
 use Rattle.rules.specs.Open as open-rules
 use Rattle.ledger.specs.Ledger.{Ledger}
-use Rattle.ledger.proofs.Blobs.{count, never, found-listed, find-change-same, find-change-other}
-use Rattle.ledger.proofs.Standing.{first, room, first-is, room-is, Lowest, first-room, first-next, first-low, room-some, Fits, Standing, Safe, moved}
-use Rattle.ledger.proofs.Reach.{reachOf, full, reach-from}
+use Rattle.ledger.proofs.Blobs.{count, found-listed, find-change-same, find-change-other}
+use Rattle.ledger.proofs.Standing.{first, room, first-is, room-is, Lowest, first-room, first-next, first-low, Fits, Standing}
+use Rattle.ledger.proofs.Reach.{reachOf, full}
 use Rattle.ledger.proofs.Done.{standing-truncate}
 use Rattle.ledger.proofs.Chain.{plain}
 use Rattle.ledger.proofs.Plans.{Leads, leads-unless}
