@@ -3,14 +3,14 @@ use Prim.Native.Nat.{ℕ, zero, suc, _+_, _≤_, _<_}
 use mathlib.Core.Path.{_≡_, refl, sym, ap, _∙_, subst}
 use mathlib.Core.Logic.{_⊎_, inl, inr}
 use mathlib.Core.List.{List, [], _∷_}
-use lib.ListN.{length, take}
+use lib.ListN.{length}
 use native.Mathlib.Omega.{arith}
 use Rattle.std.proofs.shelf.Tests.{cases-eq}
 use Rattle.std.proofs.shelf.Ways.{tells}
-use Rattle.std.proofs.shelf.Lists.{take-take}
 use Rattle.std.specs.declared.option.Option.{Option}
 use Rattle.std.specs.declared.option.Option.the-variants.{None, Some}
 use Rattle.store.specs.Disk.{Blob, Blobs, find, numbers, change, insert, without, blank, synced, settled, Weaker, Weakened}
+use Rattle.rules.specs.Calls.{count}
 
 -- change ----------------------------------------------------------------------------------------
 
@@ -53,10 +53,6 @@ find-change f b k xs y e = go (cases-eq b k)
     go (inr h) = inr (h, sym (find-change-other f b k xs h) ∙ e)
 
 -- numbers in a row ------------------------------------------------------------------------------
-
-abbrev pub count : ℕ → ℕ → List ℕ
-count lo zero = []
-count lo (suc k) = lo ∷ count (lo + 1) k
 
 pub listed-find : (xs : Blobs) (lo k b : ℕ) → numbers xs ≡ count lo k → lo ≤ b → b < lo + k → (x : Blob) × (find xs b ≡ Some x)
 listed-find [] lo zero b e h g = absurd (omega arith)
@@ -173,17 +169,3 @@ weakened-found (x′ ∷ xs) (y′ ∷ ys) w b x e =
 pub weaker-self : (x : Blob) → x .safe ≤ x .sound → x .sound ≤ length (x .bytes) → Weaker x x
 weaker-self x h g =
     record { kept = h; fewer = omega arith; safe-grows = omega arith; safe-within = h; same = refl; sound-within = g; shorter = omega arith }
-
-pub weaker-trans : (x y z : Blob) → Weaker x y → Weaker y z → Weaker x z
-weaker-trans x y z p q = record {
-  kept = omega arith;
-  fewer = omega arith;
-  safe-grows = omega arith;
-  safe-within = q .safe-within;
-  same =
-      q .same
-      ∙ (sym (take-take (z .sound) (y .sound) (y .bytes) (q .fewer))
-      ∙ (ap (λ (r : List ℕ). take (z .sound) r) (p .same) ∙ take-take (z .sound) (y .sound) (x .bytes) (q .fewer)));
-  sound-within = q .sound-within;
-  shorter = omega arith;
-}

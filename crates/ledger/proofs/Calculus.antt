@@ -15,8 +15,9 @@ use Rattle.std.specs.declared.option.Option.the-variants.{Some}
 use Rattle.std.specs.Joined.{joined}
 use Rattle.store.specs.Disk.{Blob, Blobs, find, numbers, change, insert, without, blank, synced, cutTo, grown, settled, Weaker, Weakened}
 use Rattle.rules.specs.Rules.{MAX, Config}
+use Rattle.rules.specs.Calls.{count}
 use Rattle.ledger.specs.Ledger.{Ledger, entered, appended}
-use Rattle.ledger.proofs.Blobs.{count, find-change, find-change-other, numbers-change, listed-find, found-listed, not-listed, find-insert-other, find-insert-same, numbers-insert-top, find-without-other, numbers-without-low, numbers-without-top, numbers-settled, find-settled, weakened-numbers, weakened-find, weaker-self}
+use Rattle.ledger.proofs.Blobs.{find-change, find-change-other, numbers-change, listed-find, found-listed, not-listed, find-insert-other, find-insert-same, numbers-insert-top, find-without-other, numbers-without-low, numbers-without-top, numbers-settled, find-settled, weakened-numbers, weakened-find, weaker-self}
 use Rattle.ledger.proofs.Standing.{first, room, first-room, first-next, first-apart, Fits, Reached, Held, Rows, moved, first-later, room-later, first-is}
 
 -- a window of z bytes at a, of lists that agree up to s
@@ -171,9 +172,6 @@ module _ {R : Type 0} (c : Config) (enc : R → List ℕ) (l : Ledger R) where
         shorter = omega (arith, length-take n (x .bytes));
         same = take-take (min (x .sound) n) n (x .bytes) (omega arith);
       }
-
-  none-found : (b : ℕ) (x : Blob) (bs : Blobs) (lo k : ℕ) → numbers bs ≡ count lo k → find bs b ≡ Some x → ((lo ≤ b) × (b < lo + k) → ⊥) → ⊥
-  none-found b x bs lo k e f h = h (found-listed bs lo k b x e f)
 
   -- a blank blob above the highest, where the one below the highest is full and safe
   pub rows-opened : {lo more : ℕ} (bs : Blobs) (k : ℕ) → 0 < c .z → (w : Rows c enc lo more bs l) → k ≡ suc (lo + more) → k * c .n ≤ MAX

@@ -9,12 +9,11 @@ use native.Mathlib.Nat.{mul-add-mod-self-right, mod-self}
 use Rattle.std.specs.Joined.{joined}
 use Rattle.std.specs.declared.option.Option.{Option}
 use Rattle.std.specs.declared.option.Option.the-variants.{Some}
-use Rattle.store.specs.declared.keys.Key.{Key}
-use Rattle.store.specs.Disk.{Blob, Disk, find, Open, Append, Truncate, Sync, Remove, Put, DropKey, SyncKeys, done}
+use Rattle.store.specs.Disk.{Blob, Disk, find, Open, Append, Truncate, Sync, Remove, done}
 use Rattle.rules.specs.Rules.{Config, MAX}
 use Rattle.ledger.specs.Ledger.{Ledger, appended}
 use Rattle.ledger.proofs.Standing.{first, room, HintStands, KeysStand, Standing, moved}
-use Rattle.ledger.proofs.Calculus.{rows-synced, rows-cut, rows-opened, rows-without-top, rows-without-low, rows-appended, rows-kept, rows-kept-less, rows-ahead}
+use Rattle.ledger.proofs.Calculus.{rows-synced, rows-cut, rows-opened, rows-without-top, rows-without-low, rows-appended, rows-kept, rows-ahead}
 
 -- the saved hint, when the start moves up to a blob's first position
 pub hint-later : (c : Config) (s s′ : ℕ) (h : Option ℕ) → s < s′ → s′ % c .n ≡ 0 → HintStands c s h → HintStands c s′ h
@@ -26,15 +25,6 @@ hint-later c s s′ h l a (inr (o, inr (v, e, inr q))) = inr (a, inr (v, e, inr 
 module _ {R : Type 0} (c : Config) (enc : R → List ℕ) (l : Ledger R) {lo more : ℕ} (d : Disk) (w : Standing c enc lo more d l) where
   pub standing-sync : (b : ℕ) → Standing c enc lo more (done (Sync b) d) l
   standing-sync b = record { rows = rows-synced c enc l (d .blobs) b (w .rows); keys = w .keys }
-
-  pub standing-put : (k : Key) (v : ℕ) → Standing c enc lo more (done (Put k v) d) l
-  standing-put k v = record { rows = w .rows; keys = w .keys }
-
-  pub standing-drop : (k : Key) → Standing c enc lo more (done (DropKey k) d) l
-  standing-drop k = record { rows = w .rows; keys = w .keys }
-
-  pub standing-keys : KeysStand c (d .present) l → Standing c enc lo more (done SyncKeys d) l
-  standing-keys k = record { rows = w .rows; keys = k }
 
   pub standing-open : 0 < c .z → (k : ℕ) → k ≡ suc (lo + more) → k * c .n ≤ MAX
       → ((b : ℕ) (x : Blob) → suc (suc b) ≡ k → find (d .blobs) b ≡ Some x → room c (l .start) b * c .z ≤ x .safe)
@@ -80,13 +70,6 @@ module _ {R : Type 0} (c : Config) (enc : R → List ℕ) (l : Ledger R) {lo mor
   -- the ledger's end does not count
   pub standing-end : (e : ℕ) → Standing c enc lo more d (moved l (l .start) e (l .kept) (l .far))
   standing-end e = standing-kept (l .kept) e (omega arith) (w .rows .kept-far) (w .rows .kept-top) (w .rows .kept)
-
-  -- kept goes down, once the saved mark has
-  pub standing-kept-less : (k e : ℕ) → l .start ≤ k → k ≤ l .kept → w .keys .mark ≤ k → Standing c enc lo more d (moved l (l .start) e k (l .far))
-  standing-kept-less k e from to under = record {
-    rows = rows-kept-less c enc l (d .blobs) k e (w .rows) from to;
-    keys = let q = w .keys in record { target = q .target; mark = q .mark; marked = q .marked; mark-kept = under; hint = q .hint };
-  }
 
 module _ {R : Type 0} (c : Config) (enc : R → List ℕ) (l : Ledger R) {lo more : ℕ} (d : Disk) (w : Standing c enc lo (suc more) d l) where
   pub standing-remove-top : (k : ℕ) → k ≡ suc (lo + more) → l .kept ≤ k * c .n → Standing c enc lo more (done (Remove k) d) l

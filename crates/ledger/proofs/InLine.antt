@@ -14,11 +14,11 @@ use Rattle.store.specs.declared.keys.Keys.{Keys}
 use Rattle.store.specs.Disk.{Blob, Blobs, Disk, View, find, numbers, Op, Open, Append, Truncate, Sync, Remove, Put, DropKey, SyncKeys, done, doneAll, Counted}
 use Rattle.rules.specs.Rules.{Config, Plan, Fault, answer, refuse, ask, call, calls, refuseIf, persist, aligned, blobOf, badConfig, ItemPruned, Outcome, Follows}
 use Rattle.rules.specs.Open.{Opened}
-use Rattle.rules.specs.Calls.{truncating, truncated, truncate-rule, keysFirst, anchor, goes, lastBlob}
+use Rattle.rules.specs.Calls.{truncating, truncated, truncate-rule, keysFirst, anchor, goes, lastBlob, count}
 use Rattle.ledger.specs.Ledger.{Ledger, Event, Called}
 use Rattle.ledger.specs.Runs.{Log, fresh, over, opened, trimmed, staged, running, leaving, ruleOf, Consecutive, Kind, Happened, InLine, InLineFor}
 use Rattle.ledger.specs.Ledger as ledger
-use Rattle.ledger.proofs.Blobs.{count, never}
+use Rattle.ledger.proofs.Blobs.{never}
 use Rattle.ledger.proofs.Standing.{Safe}
 use Rattle.ledger.proofs.States.{State, Spans, trimmed-spans, state-safe}
 use Rattle.ledger.proofs.Law.{Sound, sound, holds}

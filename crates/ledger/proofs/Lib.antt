@@ -13,7 +13,6 @@ pub mod Prunes
 pub mod Clears
 pub mod Trims
 pub mod Rows
-pub mod Counts
 pub mod Cuts
 pub mod Truncates
 pub mod Publishes

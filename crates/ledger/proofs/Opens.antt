@@ -18,8 +18,9 @@ use Rattle.store.specs.Disk.{Blob, Blobs, Disk, find, numbers}
 use Rattle.store.specs.declared.keys.Keys.{Keys}
 use Rattle.rules.specs.Rules.{Config, MAX, blobOf, firstIn, aligned, Plan, Fault, refuse, ask, refuseIf, OffsetOverflow, Corruption, ItemPruned}
 use Rattle.rules.specs.Open.{Opened, noEdge, walkAll, Walked, examine, examineTwo, below, anyOver, startAt, weigh, open-rule, lowest, edgeAt, orMax, isBelow}
+use Rattle.rules.specs.Calls.{count}
 use Rattle.ledger.specs.Ledger.{Ledger}
-use Rattle.ledger.proofs.Blobs.{count, never, found-listed}
+use Rattle.ledger.proofs.Blobs.{never, found-listed}
 use Rattle.ledger.proofs.Standing.{Still, rows-apart, first, room, first-is, Lowest, first-room, first-next, first-low, Fits, Rows, HintStands, Standing, Safe, moved}
 use Rattle.ledger.proofs.Reach.{reachOf, full, reach-from, kept-reach, reach-covers, reach-top}
 use Rattle.ledger.proofs.Plans.{Leads, leads-unless}

@@ -9,13 +9,12 @@ use Rattle.std.specs.declared.option.Option.{Option}
 use Rattle.std.specs.declared.option.Option.the-variants.{None, Some}
 use Rattle.store.specs.Disk.{Blob, Disk, find, Op, Remove, done, without}
 use Rattle.rules.specs.Rules.{Config, aligned}
-use Rattle.rules.specs.Calls.{committing}
+use Rattle.rules.specs.Calls.{committing, count}
 use Rattle.ledger.specs.Ledger.{Ledger}
-use Rattle.ledger.proofs.Blobs.{count, found-listed, listed-find, find-without-other}
+use Rattle.ledger.proofs.Blobs.{found-listed, listed-find, find-without-other}
 use Rattle.ledger.proofs.Standing.{first, room, blob-first, stands, Safe, moved, first-later, room-later, rows-apart}
 use Rattle.ledger.proofs.Done.{standing-remove-low}
-use Rattle.ledger.proofs.Power.{safe-weakened}
-use Rattle.ledger.proofs.Chain.{Chain, chain-append, chain-then, Closed, plain, chain-stop}
+use Rattle.ledger.proofs.Chain.{Chain, chain-append, chain-then, plain, chain-stop}
 use Rattle.ledger.proofs.Runs.{Tied, Inside, SafeFor, commit-chain}
 
 module _ {R : Type 0} (c : Config) (enc : R → List ℕ) where
@@ -58,11 +57,6 @@ module _ {R : Type 0} (c : Config) (enc : R → List ℕ) where
 
   abbrev pub PruneStops : Ledger R → ℕ → Disk → Type 0
   PruneStops l most d = Safe c enc d l ⊎ ((s : ℕ) × PrunedTo l most d s)
-
-  pub prune-closed : (l : Ledger R) (most : ℕ) → Closed (PruneStops l most)
-  prune-closed l most d e (inl w) k s = inl (safe-weakened c enc l d e w k s)
-  prune-closed l most d e (inr (p, w)) k s =
-      inr (p, record { aligned = w .aligned; above = w .above; within = w .within; safe = safe-weakened c enc (moved l p (l .end) (l .end) (l .far)) d e (w .safe) k s })
 
   pub record Pruned (l : Ledger R) (hi b : ℕ) (d : Disk) : Type 0 where
     pub more : ℕ

@@ -14,9 +14,9 @@ use Rattle.std.proofs.shelf.Bits.{le-div, div-below}
 use Rattle.store.specs.Disk.{Blob, Blobs, Disk, find, numbers, change, synced, Op, Open, Sync, done, insert}
 use Rattle.store.specs.declared.keys.Keys.{Keys}
 use Rattle.rules.specs.Rules.{Config, blobOf, persist, MAX}
-use Rattle.rules.specs.Calls.{same, from, upOneByOne}
+use Rattle.rules.specs.Calls.{same, from, upOneByOne, count}
 use Rattle.ledger.specs.Ledger.{Ledger}
-use Rattle.ledger.proofs.Blobs.{count, find-change, found-listed, find-insert-other, listed-find, numbers-insert-top}
+use Rattle.ledger.proofs.Blobs.{find-change, found-listed, find-insert-other, listed-find, numbers-insert-top}
 use Rattle.ledger.proofs.Standing.{first-room, Standing, Rows, moved}
 use Rattle.ledger.proofs.Chain.{Chain, Found, chain-then, plain}
 use Rattle.ledger.proofs.Calculus.{rows-far}

@@ -13,8 +13,9 @@ use Rattle.std.proofs.shelf.Bits.{le-div, div-below, div-add-mod'}
 use Rattle.std.specs.declared.option.Option.the-variants.{Some}
 use Rattle.store.specs.Disk.{Blob, Blobs, find, numbers}
 use Rattle.rules.specs.Rules.{Config}
+use Rattle.rules.specs.Calls.{count}
 use Rattle.ledger.specs.Ledger.{Ledger}
-use Rattle.ledger.proofs.Blobs.{count, never, found-listed}
+use Rattle.ledger.proofs.Blobs.{never, found-listed}
 use Rattle.ledger.proofs.Standing.{first, room, Lowest, first-room, first-next, first-low, first-apart, room-some, Fits, Reached, Rows, moved}
 use Rattle.ledger.proofs.Calculus.{rows-far}
 

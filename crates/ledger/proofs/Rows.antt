@@ -1,13 +1,12 @@
 -- Numbers in a row: which of them are had, those from one on, those up to one, and the row turned round.
 use Prim.Native.Nat.{ℕ, zero, suc, _+_, _≤_, _<_}
-use mathlib.Core.Path.{_≡_, refl, sym, ap, _∙_}
+use mathlib.Core.Path.{_≡_, refl, ap, _∙_}
 use mathlib.Core.Bool.{true, false}
 use mathlib.Core.List.{List, [], _∷_, _++_, reverse}
 use native.Mathlib.Omega.{arith}
 use Rattle.std.proofs.shelf.Ways.{tells}
 use Rattle.std.proofs.shelf.Lists.{reverse-append}
-use Rattle.rules.specs.Calls.{has, from, upTo}
-use Rattle.ledger.proofs.Blobs.{count}
+use Rattle.rules.specs.Calls.{has, from, upTo, count}
 
 pub has-in : (lo k b : ℕ) → lo ≤ b → b < lo + k → has b (count lo k) ≡ true
 has-in lo zero b h g = absurd (omega arith)
@@ -56,6 +55,3 @@ count-more lo (suc k) b h = ap {B = List ℕ} (λ r. lo ∷ r) (count-more (lo +
 
 pub reverse-more : (lo k b : ℕ) → b ≡ lo + k → reverse (count lo (suc k)) ≡ b ∷ reverse (count lo k)
 reverse-more lo k b h = ap (λ (r : List ℕ). reverse r) (count-more lo k b h) ∙ reverse-append (count lo k) (b ∷ [])
-
-pub upTo-next : (lo k b : ℕ) → b ≡ lo + k → upTo b (count lo k ++ (b ∷ [])) ≡ count lo k
-upTo-next lo k b h = ap (λ (r : List ℕ). upTo b r) (sym (count-more lo k b h)) ∙ (ap (λ (j : ℕ). upTo b (count lo j)) (let e : suc k ≡ k + 1 = omega arith in e) ∙ upTo-row k lo 1 b h)

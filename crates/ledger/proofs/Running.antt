@@ -13,10 +13,9 @@ use Rattle.std.proofs.shelf.Tests.{cond-true, cond-false, cond-both, lt-ltb, le
 use Rattle.std.proofs.shelf.Bits.{div-below}
 use Rattle.store.specs.Disk.{Disk, View, Op, Remove}
 use Rattle.rules.specs.Rules.{Config, blobOf, persist, Plan, answer, calls}
-use Rattle.rules.specs.Calls.{Running, committing, from, commit-rule, sync-rule, prune-rule}
+use Rattle.rules.specs.Calls.{Running, committing, from, commit-rule, sync-rule, prune-rule, count}
 use Rattle.rules.specs.Open.{Opened}
 use Rattle.ledger.specs.Ledger.{Ledger, entry, Prune}
-use Rattle.ledger.proofs.Blobs.{count}
 use Rattle.ledger.proofs.Standing.{moved, rows-apart}
 use Rattle.ledger.proofs.Chain.{Chain, chain-then}
 use Rattle.ledger.proofs.Prunes.{PruneStops, Pruned, prune-chain}

@@ -20,8 +20,7 @@ use Rattle.ledger.specs.Ledger.{Ledger}
 use Rattle.ledger.proofs.Blobs.{find-change, find-change-same, find-change-other, found-listed, listed-find}
 use Rattle.ledger.proofs.Standing.{first, room, blob-is, first-room, HintStands, Standing, stands, Safe, Rows, moved}
 use Rattle.ledger.proofs.Done.{standing-sync, standing-kept}
-use Rattle.ledger.proofs.Power.{safe-weakened}
-use Rattle.ledger.proofs.Chain.{Chain, chain-append, chain-then, Closed, plain}
+use Rattle.ledger.proofs.Chain.{Chain, chain-append, chain-then, plain}
 
 pub record Tied {R : Type 0} (c : Config) (enc : R → List ℕ) (lo more : ℕ) (d : Disk) (l : Ledger R) (owed : Option ℕ) : Type 0 where
   pub stand : Standing c enc lo more d l
@@ -47,9 +46,6 @@ Inside c lo more l = l .end < (lo + more) * c .n + c .n
 module _ {R : Type 0} (c : Config) (enc : R → List ℕ) where
   abbrev pub SafeFor : Ledger R → Disk → Type 0
   SafeFor l d = Safe c enc d l
-
-  pub safe-closed : (l : Ledger R) → Closed (SafeFor l)
-  safe-closed l d e = safe-weakened c enc l d e
 
   -- commit ------------------------------------------------------------------------------------
 

@@ -13,8 +13,8 @@ use Rattle.store.specs.Disk.{Blob, Blobs, Disk, find, numbers}
 use Rattle.store.specs.declared.keys.Keys.{Keys}
 use Rattle.rules.specs.Rules.{Config, MAX, firstIn}
 use Rattle.rules.specs.Open.{capacity}
+use Rattle.rules.specs.Calls.{count}
 use Rattle.ledger.specs.Ledger.{Ledger}
-use Rattle.ledger.proofs.Blobs.{count}
 
 -- positions -------------------------------------------------------------------------------------
 
@@ -57,10 +57,6 @@ module _ (c : Config) (s lo : ℕ) (low : Lowest c s lo) where
   pub first-low : first c s lo ≡ s
   unfolding first
   first-low = omega (arith, low .from)
-
-  pub start-first : (b : ℕ) → s ≤ first c s b
-  unfolding first
-  start-first b = omega arith
 
   pub first-apart : (a b : ℕ) → lo ≤ a → a < b → first c s a + room c s a ≤ first c s b
   unfolding first

@@ -13,9 +13,9 @@ use Rattle.std.proofs.shelf.Tests.{cases-lt, eqb-false}
 use Rattle.store.specs.Disk.{Blob, Blobs, Disk, find, numbers, synced, Op, Open, Append, Sync, Remove, done, insert}
 use Rattle.store.specs.declared.keys.Keys.{Keys}
 use Rattle.rules.specs.Rules.{Config, blobOf, aligned, persist, MAX}
-use Rattle.rules.specs.Calls.{same, has, from, upTo, openIf}
+use Rattle.rules.specs.Calls.{same, has, from, upTo, openIf, count}
 use Rattle.ledger.specs.Ledger.{Ledger, appended}
-use Rattle.ledger.proofs.Blobs.{count, find-change, found-listed, find-insert-other, listed-find}
+use Rattle.ledger.proofs.Blobs.{find-change, found-listed, find-insert-other, listed-find}
 use Rattle.ledger.proofs.Standing.{first, blob-first, blob-is, first-room, stands, moved}
 use Rattle.ledger.proofs.Done.{standing-kept}
 use Rattle.ledger.proofs.Chain.{Chain, chain-then, plain}

@@ -17,10 +17,10 @@ use Rattle.std.proofs.shelf.Lists.{append-nil}
 use Rattle.store.specs.Disk.{Blob, Blobs, Disk, find, numbers, change, synced, Op, Open, Truncate, Sync, Remove, done, cutTo, insert, doneAll}
 use Rattle.store.specs.declared.keys.Keys.{Keys}
 use Rattle.rules.specs.Rules.{Config, blobOf, aligned, persist, firstIn}
-use Rattle.rules.specs.Calls.{keysFirst, same, has, from, upTo, isEmpty, anchored, goes, anchor, lastBlob, truncating}
+use Rattle.rules.specs.Calls.{keysFirst, same, has, from, upTo, isEmpty, anchored, goes, anchor, lastBlob, truncating, count}
 use Rattle.rules.specs.Open.{Opened}
 use Rattle.ledger.specs.Ledger.{Ledger}
-use Rattle.ledger.proofs.Blobs.{count, find-change, find-change-same, find-change-other, found-listed, not-listed, find-without-other, listed-find}
+use Rattle.ledger.proofs.Blobs.{find-change, find-change-same, find-change-other, found-listed, not-listed, find-without-other, listed-find}
 use Rattle.ledger.proofs.Standing.{first, room, first-room, first-apart, Standing, Rows, moved, first-is}
 use Rattle.ledger.proofs.Done.{standing-sync, standing-truncate, standing-remove-top}
 use Rattle.ledger.proofs.Chain.{Chain, chain-append, chain-then, plain}

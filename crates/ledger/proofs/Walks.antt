@@ -17,9 +17,10 @@ use Rattle.std.specs.declared.option.Option.the-variants.{None, Some}
 use Rattle.store.specs.Disk.{Blob, Blobs, Disk, find, numbers, Truncate, done, cutTo}
 use Rattle.rules.specs.Rules.{Config, MAX, blobOf, firstIn, Plan, OffsetOverflow, Corruption}
 use Rattle.rules.specs.Open.{capacity, walk, walkAll, examine, valid, scanned, limitOf, needed, roundUp, orMax, passes, acknowledged}
+use Rattle.rules.specs.Calls.{count}
 use Rattle.rules.specs.Open as open-rules
 use Rattle.ledger.specs.Ledger.{Ledger}
-use Rattle.ledger.proofs.Blobs.{count, found-listed, find-change-same, find-change-other}
+use Rattle.ledger.proofs.Blobs.{found-listed, find-change-same, find-change-other}
 use Rattle.ledger.proofs.Standing.{first, room, first-is, room-is, Lowest, first-room, first-next, first-low, Fits, Standing}
 use Rattle.ledger.proofs.Reach.{reachOf, full}
 use Rattle.ledger.proofs.Done.{standing-truncate}
