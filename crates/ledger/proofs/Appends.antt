@@ -19,11 +19,10 @@ use Rattle.rules.specs.Rules.{MAX, Config, blobOf, aligned}
 use Rattle.rules.specs.Calls.{appending}
 use Rattle.ledger.specs.Ledger.{Ledger, appended, entered}
 use Rattle.ledger.proofs.Blobs.{find-change-same, find-change-other, listed-find, find-insert-same, find-insert-other, not-listed}
-use Rattle.ledger.proofs.Standing.{first, room, blob-first, blob-is, first-room, first-next, Standing, Stands, stands, Safe}
-use Rattle.ledger.proofs.Done.{standing-open, standing-append, standing-ahead}
+use Rattle.ledger.proofs.Invariant.{first, room, blob-first, blob-is, first-room, first-next, Standing, Stands, stands, Safe}
+use Rattle.ledger.proofs.Writes.{standing-open, standing-append, standing-ahead, entered-below, joined-length}
 use Rattle.ledger.proofs.Chain.{Chain, Step, plain}
-use Rattle.ledger.proofs.Calculus.{entered-below, joined-length}
-use Rattle.ledger.proofs.Runs.{Tied, Inside, SafeFor, tied-owed}
+use Rattle.ledger.proofs.Commits.{Tied, Inside, SafeFor, tied-owed}
 
 -- the ledger ------------------------------------------------------------------------------------
 

@@ -104,6 +104,19 @@ numbers-insert-top (x ∷ xs) lo (suc k) b h e =
     let ih = numbers-insert-top xs (lo + 1) k b (omega arith) rest in
     grind (arith, tells)
 
+-- a blob that is there is not made again
+pub insert-here : (xs : Blobs) (lo k b : ℕ) → numbers xs ≡ count lo k → lo ≤ b → b < lo + k → insert b xs ≡ xs
+insert-here [] lo zero b n h g = absurd (omega arith)
+insert-here [] lo (suc k) b n h g = let z : _≡_ {A = ℕ} 0 1 = cc in absurd (omega arith)
+insert-here (x ∷ xs) lo zero b n h g = absurd (omega arith)
+insert-here (x ∷ xs) lo (suc k) b n h g =
+    let first : x .0 ≡ lo = cc in
+    let rest : numbers xs ≡ count (lo + 1) k = cc in
+    elim (cases-eq (x .0) b) [
+      | inl i ↦ grind (arith, tells)
+      | inr i ↦ let ih = insert-here xs (lo + 1) k b rest (omega arith) (omega arith) in grind (arith, tells)
+    ]
+
 -- without ---------------------------------------------------------------------------------------
 
 pub find-without-other : (b k : ℕ) (xs : Blobs) → (b ≡ k → ⊥) → find (without b xs) k ≡ find xs k

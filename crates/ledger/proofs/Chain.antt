@@ -5,7 +5,7 @@ use mathlib.Core.Logic.{_⊎_, inl, inr}
 use mathlib.Core.List.{List, [], _∷_, _++_}
 use lib.ListN.{length}
 use Rattle.std.specs.declared.option.Option.the-variants.{Some}
-use Rattle.store.specs.Disk.{Blob, Blobs, Disk, find, Op, Open, Append, Truncate, Sync, Remove, Put, DropKey, SyncKeys, done, Weakened, Counted}
+use Rattle.store.specs.Disk.{doneAll, Blob, Blobs, Disk, find, Op, Open, Append, Truncate, Sync, Remove, Put, DropKey, SyncKeys, done, Weakened, Counted}
 
 abbrev pub Found : Blobs → ℕ → Type 0
 Found bs b = (x : Blob) × (find bs b ≡ Some x)
@@ -81,3 +81,8 @@ plain S (Remove b) d a p q = (a, either S d (done (Remove b) d) p q)
 plain S (Put k m) d a p q = (a, either S d (done (Put k m) d) p q)
 plain S (DropKey k) d a p q = (a, either S d (done (DropKey k) d) p q)
 plain S SyncKeys d a p q = (a, either S d (done SyncKeys d) p q)
+
+-- a list of calls that is done leaves the disk that they make
+pub chain-end : (S Q : Disk → Type 0) (os : List Op) (d : Disk) → Chain S Q os d → Chain S (λ e. (e ≡ doneAll os d) × Q e) os d
+chain-end S Q [] d k = (refl, k)
+chain-end S Q (o ∷ os) d k = (k .0, chain-end S Q os (done o d) (k .1))

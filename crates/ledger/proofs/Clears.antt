@@ -17,9 +17,9 @@ use Rattle.store.specs.Disk.{Blob, Blobs, Disk, find, numbers, Open, Remove, Pu
 use Rattle.store.specs.declared.keys.Keys.{Keys}
 use Rattle.rules.specs.Rules.{Config, blobOf, aligned, persist, MAX, staging, clearing, isAbove}
 use Rattle.ledger.specs.Ledger.{Ledger}
-use Rattle.ledger.proofs.Standing.{first, HintStands, Standing, stands, Staged, Safe, Rows, moved, Lowest, first-low}
+use Rattle.ledger.proofs.Invariant.{first, HintStands, Standing, stands, Staged, Safe, Rows, moved, Lowest, first-low}
 use Rattle.ledger.proofs.Chain.{Chain, plain}
-use Rattle.ledger.proofs.Runs.{SafeFor, safe-put, safe-drop}
+use Rattle.ledger.proofs.Commits.{SafeFor, safe-put, safe-drop}
 
 without-first : (x : ℕ × Blob) (xs : Blobs) → without (x .0) (x ∷ xs) ≡ xs
 without-first x xs = cond-true (eqb (x .0) (x .0)) xs (x ∷ without (x .0) xs) (eq-eqb (x .0) (x .0) refl)

@@ -8,8 +8,8 @@ use Rattle.store.specs.Disk.{Blob, Disk, find}
 use Rattle.rules.specs.Rules.{Config}
 use Rattle.rules.specs.Open.{Opened}
 use Rattle.ledger.specs.Ledger.{Ledger}
-use Rattle.ledger.proofs.Standing.{first, room, Standing, moved}
-use Rattle.ledger.proofs.Done.{standing-end}
+use Rattle.ledger.proofs.Invariant.{first, room, Standing, moved}
+use Rattle.ledger.proofs.Writes.{standing-end}
 
 pub record Cuttable {R : Type 0} (c : Config) (enc : R → List ℕ) (l : Ledger R) (o : Opened) (d : Disk) : Type 0 where
   pub lo : ℕ

@@ -20,10 +20,9 @@ use Rattle.rules.specs.Rules.{Config, blobOf, aligned, persist, firstIn, MAX, P
 use Rattle.rules.specs.Calls.{Running, keysFirst, same, has, anchored, anchor, goes, lastBlob, truncating, openIf, publish-rule, upOneByOne, truncate-rule, truncated, trimmed-append-rule, trimmed-sync-rule, trimmed-prune-rule}
 use Rattle.rules.specs.Open.{Opened, noEdge}
 use Rattle.ledger.specs.Ledger.{Ledger, appended, entry, pruneTo, Prune}
-use Rattle.ledger.proofs.Standing.{first, HintFree, Standing, stands, Empty, Safe, moved, first-low}
-use Rattle.ledger.proofs.Chain.{Chain, chain-append, chain-then, plain}
-use Rattle.ledger.proofs.Truncates.{chain-end}
-use Rattle.ledger.proofs.Runs.{Tied, SafeFor, safe-same, safe-put, safe-drop}
+use Rattle.ledger.proofs.Invariant.{first, HintFree, Standing, stands, Empty, Safe, moved, first-low}
+use Rattle.ledger.proofs.Chain.{Chain, chain-append, chain-then, plain, chain-end}
+use Rattle.ledger.proofs.Commits.{Tied, SafeFor, safe-same, safe-put, safe-drop}
 use Rattle.ledger.proofs.Clears.{rows-blank, one-found}
 use Rattle.ledger.proofs.Plans.{Leads, leads-unless, leads-calls}
 use Rattle.ledger.proofs.Trimmeds.{Trim, KeptAll, safe-ahead, in-blob}

@@ -18,11 +18,11 @@ use Rattle.rules.specs.Calls.{Running, truncate-rule, publish-rule, trimmed-app
 use Rattle.rules.specs.Reads.{when}
 use Rattle.ledger.specs.Ledger.{Ledger, Call, Open, Append, Truncate, Publish, Prune, Clear, Commit, Sync, Complete, Leave, offers, gives, refusal, entry, Left, cut, cutting, appended, kept-to-end, pruneTo}
 use Rattle.ledger.specs.Runs.{Log, fresh, over, opened, trimmed, staged, running, leaving, isLayout, packed, ruleOf}
-use Rattle.ledger.proofs.Standing.{Staged, Safe, moved}
-use Rattle.ledger.proofs.Power.{safe-weakened}
+use Rattle.ledger.proofs.Invariant.{Staged, Safe, moved}
+use Rattle.ledger.proofs.Weakening.{safe-weakened}
 use Rattle.ledger.proofs.Chain.{Closed}
 use Rattle.ledger.proofs.Plans.{Leads-or, Leads, unrefused, leads-as, leads-leaving, leads-if}
-use Rattle.ledger.proofs.Runs.{SafeFor}
+use Rattle.ledger.proofs.Commits.{SafeFor}
 use Rattle.ledger.proofs.Prunes.{PruneStops}
 use Rattle.ledger.proofs.Cuts.{Cuttable}
 use Rattle.ledger.proofs.Recovers.{Trim-as, Run-as, truncate-leads, publish-leads}

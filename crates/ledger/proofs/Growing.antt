@@ -18,10 +18,10 @@ use Rattle.rules.specs.Calls.{Running, appending, same, from, append-rule}
 use Rattle.rules.specs.Calls as calls-of
 use Rattle.ledger.specs.Ledger.{Ledger, appended}
 use Rattle.ledger.proofs.Blobs.{found-listed}
-use Rattle.ledger.proofs.Standing.{first, room}
+use Rattle.ledger.proofs.Invariant.{first, room}
 use Rattle.ledger.proofs.Chain.{chain-then}
 use Rattle.ledger.proofs.Appends.{aligned-next, owedAfter, After, append-chain}
-use Rattle.ledger.proofs.Runs.{Tied, SafeFor}
+use Rattle.ledger.proofs.Commits.{Tied, SafeFor}
 use Rattle.ledger.proofs.Plans.{Leads, leads-unless, leads-calls}
 use Rattle.ledger.proofs.Recovers.{Run-as}
 use Rattle.ledger.proofs.Readings.{Good, good}

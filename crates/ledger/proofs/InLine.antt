@@ -19,7 +19,7 @@ use Rattle.ledger.specs.Ledger.{Ledger, Event, Called}
 use Rattle.ledger.specs.Runs.{Log, fresh, over, opened, trimmed, staged, running, leaving, ruleOf, Consecutive, Kind, Happened, InLine, InLineFor}
 use Rattle.ledger.specs.Ledger as ledger
 use Rattle.ledger.proofs.Blobs.{never}
-use Rattle.ledger.proofs.Standing.{Safe}
+use Rattle.ledger.proofs.Invariant.{Safe}
 use Rattle.ledger.proofs.States.{State, Spans, trimmed-spans, state-safe}
 use Rattle.ledger.proofs.Law.{Sound, sound, holds}
 

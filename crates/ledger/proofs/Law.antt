@@ -18,7 +18,7 @@ use Rattle.ledger.specs.Ledger.{Ledger, first, Call, Open, Append, Truncate, P
 use Rattle.ledger.specs.Runs.{Log, fresh, over, opened, trimmed, staged, running, spanOf, isLayout, endOf, logAfter, Happened, Kind, Law}
 use Rattle.ledger.specs.Ledger as hands
 use Rattle.ledger.proofs.Blobs.{never}
-use Rattle.ledger.proofs.Power.{safe-restarted, restart-falls, new-rests}
+use Rattle.ledger.proofs.Weakening.{safe-restarted, restart-falls, new-rests}
 use Rattle.ledger.proofs.Follow.{Answered, Turned, Halted, follows-leads}
 use Rattle.ledger.proofs.Opens.{Small}
 use Rattle.ledger.proofs.States.{handOf, Up, up-for, handedBack, back-hand, State, state-safe, safe-kept-far, state-span, state-reads}

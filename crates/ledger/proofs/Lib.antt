@@ -1,31 +1,36 @@
+-- the invariant, and the laws of blobs that it rests on
 pub mod Blobs
-pub mod Standing
-pub mod Calculus
+pub mod Rows
+pub mod Invariant
+-- each writing call keeps it
+pub mod Writes
 pub mod Reach
-pub mod Done
-pub mod Power
+-- so do a power cut and a restart
+pub mod Weakening
+-- calls in order, plans, and how a plan ends that is followed
 pub mod Chain
 pub mod Plans
 pub mod Follow
-pub mod Runs
+-- the calls of a log
+pub mod Commits
 pub mod Appends
+pub mod Growing
 pub mod Prunes
 pub mod Clears
-pub mod Trims
-pub mod Rows
 pub mod Cuts
 pub mod Truncates
 pub mod Publishes
-pub mod Trimmeds
 pub mod Recovers
+pub mod Trimmeds
 pub mod Trimming
+pub mod Running
+pub mod Empties
+pub mod Readings
+-- open
 pub mod Walks
 pub mod Opens
 pub mod Rests
-pub mod Readings
-pub mod Empties
-pub mod Running
-pub mod Growing
+-- the induction over histories
 pub mod States
 pub mod Events
 pub mod Law

@@ -21,7 +21,7 @@ use Rattle.rules.specs.Open.{Opened, noEdge, walkAll, Walked, examine, examineT
 use Rattle.rules.specs.Calls.{count}
 use Rattle.ledger.specs.Ledger.{Ledger}
 use Rattle.ledger.proofs.Blobs.{never, found-listed}
-use Rattle.ledger.proofs.Standing.{Still, rows-apart, first, room, first-is, Lowest, first-room, first-next, first-low, Fits, Rows, HintStands, Standing, Safe, moved}
+use Rattle.ledger.proofs.Invariant.{Still, rows-apart, first, room, first-is, Lowest, first-room, first-next, first-low, Fits, Rows, HintStands, Standing, Safe, moved}
 use Rattle.ledger.proofs.Reach.{reachOf, full, reach-from, kept-reach, reach-covers, reach-top}
 use Rattle.ledger.proofs.Plans.{Leads, leads-unless}
 use Rattle.ledger.proofs.Walks.{Seen, AllSeen, seen-same, walk-all, rounded, Suspect, Left, examine-leads}

@@ -12,10 +12,10 @@ use Rattle.rules.specs.Rules.{Config, aligned}
 use Rattle.rules.specs.Calls.{committing, count}
 use Rattle.ledger.specs.Ledger.{Ledger}
 use Rattle.ledger.proofs.Blobs.{found-listed, listed-find, find-without-other}
-use Rattle.ledger.proofs.Standing.{first, room, blob-first, stands, Safe, moved, first-later, room-later, rows-apart}
-use Rattle.ledger.proofs.Done.{standing-remove-low}
+use Rattle.ledger.proofs.Invariant.{first, room, blob-first, stands, Safe, moved, first-later, room-later, rows-apart}
+use Rattle.ledger.proofs.Writes.{standing-remove-low}
 use Rattle.ledger.proofs.Chain.{Chain, chain-append, chain-then, plain, chain-stop}
-use Rattle.ledger.proofs.Runs.{Tied, Inside, SafeFor, commit-chain}
+use Rattle.ledger.proofs.Commits.{Tied, Inside, SafeFor, commit-chain}
 
 module _ {R : Type 0} (c : Config) (enc : R → List ℕ) where
   pub tied-remove-low : {lo more : ℕ} (l : Ledger R) (d : Disk) → Tied c enc lo (suc more) d l None → lo * c .n + c .n ≤ l .kept

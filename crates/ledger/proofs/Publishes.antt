@@ -16,13 +16,11 @@ use Rattle.store.specs.declared.keys.Keys.{Keys}
 use Rattle.rules.specs.Rules.{Config, blobOf, persist, MAX}
 use Rattle.rules.specs.Calls.{same, from, upOneByOne, count}
 use Rattle.ledger.specs.Ledger.{Ledger}
-use Rattle.ledger.proofs.Blobs.{find-change, found-listed, find-insert-other, listed-find, numbers-insert-top}
-use Rattle.ledger.proofs.Standing.{first-room, Standing, Rows, moved}
+use Rattle.ledger.proofs.Blobs.{find-change, found-listed, find-insert-other, listed-find, numbers-insert-top, insert-here}
+use Rattle.ledger.proofs.Invariant.{first-room, Standing, Rows, moved, SafeTo}
 use Rattle.ledger.proofs.Chain.{Chain, Found, chain-then, plain}
-use Rattle.ledger.proofs.Calculus.{rows-far}
-use Rattle.ledger.proofs.Truncates.{insert-here}
-use Rattle.ledger.proofs.Runs.{tied-sync, Tied, tied-paid, Inside, SafeFor, Persisted, persist-rows}
-use Rattle.ledger.proofs.Trims.{SafeTo}
+use Rattle.ledger.proofs.Writes.{rows-far}
+use Rattle.ledger.proofs.Commits.{tied-sync, Tied, tied-paid, Inside, SafeFor, Persisted, persist-rows}
 use Rattle.ledger.proofs.Appends.{tied-open}
 
 -- a row of syncs, over what every sync keeps

@@ -16,8 +16,8 @@ use Rattle.rules.specs.Rules.{Config}
 use Rattle.rules.specs.Calls.{count}
 use Rattle.ledger.specs.Ledger.{Ledger}
 use Rattle.ledger.proofs.Blobs.{never, found-listed}
-use Rattle.ledger.proofs.Standing.{first, room, Lowest, first-room, first-next, first-low, first-apart, room-some, Fits, Reached, Rows, moved}
-use Rattle.ledger.proofs.Calculus.{rows-far}
+use Rattle.ledger.proofs.Invariant.{first, room, Lowest, first-room, first-next, first-low, first-apart, room-some, Fits, Reached, Rows, moved}
+use Rattle.ledger.proofs.Writes.{rows-far}
 
 abbrev pub full : Config → ℕ → ℕ × Blob → Bool
 full c s x = leb (room c s (x .0) * c .z) (x .1 .sound)

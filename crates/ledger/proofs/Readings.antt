@@ -24,7 +24,7 @@ use Rattle.rules.specs.Reads.{when, falling, outside, lacking, bytesOf, Copy, c
 use Rattle.ledger.specs.Ledger.{Ledger, Ask, One, Many, Reads, denial}
 use Rattle.ledger.specs.Runs.{readBy, told}
 use Rattle.ledger.proofs.Blobs.{listed-find, found-listed}
-use Rattle.ledger.proofs.Standing.{first, room, first-is, first-room, first-apart, Rows, Held}
+use Rattle.ledger.proofs.Invariant.{first, room, first-is, first-room, first-apart, Rows, Held}
 
 -- which positions are inside
 abbrev pub Inside-all : ℕ → ℕ → List ℕ → Type 0

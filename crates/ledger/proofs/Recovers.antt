@@ -16,11 +16,11 @@ use Rattle.rules.specs.Calls.{Running, same, from, truncating, upOneByOne, trun
 use Rattle.rules.specs.Open.{Opened, noEdge}
 use Rattle.ledger.specs.Ledger.{Ledger}
 use Rattle.ledger.proofs.Blobs.{found-listed}
-use Rattle.ledger.proofs.Standing.{first, room, first-room, moved}
-use Rattle.ledger.proofs.Chain.{Chain, chain-append, chain-then}
-use Rattle.ledger.proofs.Truncates.{Cut-to, truncate-chain, chain-end}
+use Rattle.ledger.proofs.Invariant.{first, room, first-room, moved}
+use Rattle.ledger.proofs.Chain.{Chain, chain-append, chain-then, chain-end}
+use Rattle.ledger.proofs.Truncates.{Cut-to, truncate-chain}
 use Rattle.ledger.proofs.Publishes.{Ran, ran-chain, raise-chain, in-line}
-use Rattle.ledger.proofs.Runs.{Tied, Inside, SafeFor}
+use Rattle.ledger.proofs.Commits.{Tied, Inside, SafeFor}
 use Rattle.ledger.proofs.Plans.{Leads, leads-unless, leads-calls}
 use Rattle.ledger.proofs.Trimmeds.{Trim}
 use Rattle.ledger.proofs.Cuts.{Cuttable}

@@ -15,9 +15,9 @@ use Rattle.rules.specs.Rules.{Config, MAX, blobOf, aligned, Plan, Fault, answer
 use Rattle.rules.specs.Open.{Opened, noEdge, weigh, open-rule, edgeAt, orMax, isBelow}
 use Rattle.rules.specs.Open as open-rules
 use Rattle.ledger.specs.Ledger.{Ledger, Open, lower, refusal, entry}
-use Rattle.ledger.proofs.Standing.{Still, KeysStand, HintFree, Stands, stands, Empty, Staged, Safe, moved}
+use Rattle.ledger.proofs.Invariant.{Still, KeysStand, HintFree, Stands, stands, Empty, Staged, Safe, moved}
 use Rattle.ledger.proofs.Reach.{reachOf}
-use Rattle.ledger.proofs.Power.{Rest}
+use Rattle.ledger.proofs.Weakening.{Rest}
 use Rattle.ledger.proofs.Plans.{Leads-or, unrefused, Leads, leads-unless, leads-if, leads-or-calls, leads-as}
 use Rattle.ledger.proofs.Clears.{clear-chain}
 use Rattle.ledger.proofs.Empties.{Bare}

@@ -16,10 +16,10 @@ use Rattle.rules.specs.Rules.{Config, blobOf, persist, Plan, answer, calls}
 use Rattle.rules.specs.Calls.{Running, committing, from, commit-rule, sync-rule, prune-rule, count}
 use Rattle.rules.specs.Open.{Opened}
 use Rattle.ledger.specs.Ledger.{Ledger, entry, Prune}
-use Rattle.ledger.proofs.Standing.{moved, rows-apart}
+use Rattle.ledger.proofs.Invariant.{moved, rows-apart}
 use Rattle.ledger.proofs.Chain.{Chain, chain-then}
 use Rattle.ledger.proofs.Prunes.{PruneStops, Pruned, prune-chain}
-use Rattle.ledger.proofs.Runs.{Tied, SafeFor, commit-chain, sync-chain}
+use Rattle.ledger.proofs.Commits.{Tied, SafeFor, commit-chain, sync-chain}
 use Rattle.ledger.proofs.Plans.{Leads, leads-calls}
 use Rattle.ledger.proofs.Recovers.{Run-as}
 use Rattle.ledger.proofs.Opens.{start-blob}

@@ -14,8 +14,8 @@ use Rattle.rules.specs.Open.{Opened}
 use Rattle.ledger.specs.Ledger.{Ledger, Hand, Ask, Reads, shown}
 use Rattle.ledger.specs.Runs.{Log, fresh, over, opened, trimmed, staged, running, onLog, spanOf, readBy}
 use Rattle.ledger.specs.Ledger as hands
-use Rattle.ledger.proofs.Standing.{stands, Staged, Safe}
-use Rattle.ledger.proofs.Power.{Rest, rest-safe}
+use Rattle.ledger.proofs.Invariant.{stands, Staged, Safe}
+use Rattle.ledger.proofs.Weakening.{Rest, rest-safe}
 use Rattle.ledger.proofs.Cuts.{Cuttable}
 use Rattle.ledger.proofs.Recovers.{Trim-as, Run-as, trim-cuttable}
 use Rattle.ledger.proofs.Empties.{Bare, Blank-as, blank-bare}

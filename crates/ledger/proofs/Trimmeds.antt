@@ -15,15 +15,14 @@ use Rattle.store.specs.declared.keys.Keys.{Keys}
 use Rattle.rules.specs.Rules.{Config, blobOf, aligned, persist, MAX}
 use Rattle.rules.specs.Calls.{same, has, from, upTo, openIf, count}
 use Rattle.ledger.specs.Ledger.{Ledger, appended}
-use Rattle.ledger.proofs.Blobs.{find-change, found-listed, find-insert-other, listed-find}
-use Rattle.ledger.proofs.Standing.{first, blob-first, blob-is, first-room, stands, moved}
-use Rattle.ledger.proofs.Done.{standing-kept}
+use Rattle.ledger.proofs.Blobs.{find-change, found-listed, find-insert-other, listed-find, insert-here}
+use Rattle.ledger.proofs.Invariant.{first, blob-first, blob-is, first-room, stands, moved}
+use Rattle.ledger.proofs.Writes.{standing-kept}
 use Rattle.ledger.proofs.Chain.{Chain, chain-then, plain}
-use Rattle.ledger.proofs.Truncates.{insert-here}
 use Rattle.ledger.proofs.Publishes.{sync-rows}
 use Rattle.ledger.proofs.Appends.{ahead, run-counted, tied-append, tied-open}
 use Rattle.ledger.proofs.Prunes.{PruneStops, Pruned, remove-chain}
-use Rattle.ledger.proofs.Runs.{persist-chain, tied-persisted, tied-sync, Tied, tied-paid, SafeFor, Persisted}
+use Rattle.ledger.proofs.Commits.{persist-chain, tied-persisted, tied-sync, Tied, tied-paid, SafeFor, Persisted}
 use Rattle.ledger.proofs.Rows.{has-in, has-above, upTo-row}
 
 abbrev pub TailSafe : ℕ → Disk → Type 0

@@ -17,10 +17,10 @@ use Rattle.rules.specs.Rules.{Config, blobOf, aligned, persist, MAX, Plan, answ
 use Rattle.rules.specs.Calls.{has, upTo, openIf, trimmed-append-rule, trimmed-sync-rule, trimmed-prune-rule, complete-rule, stage-rule}
 use Rattle.rules.specs.Open.{Opened, noEdge}
 use Rattle.ledger.specs.Ledger.{Ledger, appended, entry, Prune}
-use Rattle.ledger.proofs.Standing.{first, stands, Staged, Safe, moved, first-low}
+use Rattle.ledger.proofs.Invariant.{first, stands, Staged, Safe, moved, first-low}
 use Rattle.ledger.proofs.Chain.{chain-then}
 use Rattle.ledger.proofs.Prunes.{PruneStops}
-use Rattle.ledger.proofs.Runs.{Tied, SafeFor}
+use Rattle.ledger.proofs.Commits.{Tied, SafeFor}
 use Rattle.ledger.proofs.Plans.{Leads, leads-unless, leads-calls}
 use Rattle.ledger.proofs.Trimmeds.{Trim, KeptAll, safe-ahead, trimmed-append-chain, trimmed-sync-done, trimmed-prune-chain}
 use Rattle.ledger.proofs.Recovers.{Trim-as}

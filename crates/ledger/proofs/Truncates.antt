@@ -8,10 +8,9 @@ use lib.ListN.{length, length-take}
 use lib.Dec.{eqb, ltb}
 use native.Mathlib.Omega.{arith}
 use native.Mathlib.Nat.{mul-le-mul-right, le-of-mul-le-mul-right, lt-div-mul-add, div-mul-le-self, lt-of-mul-lt-mul-right}
-use Rattle.std.proofs.shelf.Ways.{tells}
 use Rattle.std.specs.declared.option.Option.{Option}
 use Rattle.std.specs.declared.option.Option.the-variants.{None, Some}
-use Rattle.std.proofs.shelf.Tests.{cases-eq, cases-lt, eqb-true, cases-bool, cond-true, cond-false, cond-both, eq-eqb, ne-eqb, ltb-true, ltb-false, and-parts, and-left, and-from}
+use Rattle.std.proofs.shelf.Tests.{cases-lt, eqb-true, cases-bool, cond-true, cond-false, cond-both, eq-eqb, ne-eqb, ltb-true, ltb-false, and-parts, and-left, and-from}
 use Rattle.std.proofs.shelf.Bits.{le-div, div-below}
 use Rattle.std.proofs.shelf.Lists.{append-nil}
 use Rattle.store.specs.Disk.{Blob, Blobs, Disk, find, numbers, change, synced, Op, Open, Truncate, Sync, Remove, done, cutTo, insert, doneAll}
@@ -20,36 +19,16 @@ use Rattle.rules.specs.Rules.{Config, blobOf, aligned, persist, firstIn}
 use Rattle.rules.specs.Calls.{keysFirst, same, has, from, upTo, isEmpty, anchored, goes, anchor, lastBlob, truncating, count}
 use Rattle.rules.specs.Open.{Opened}
 use Rattle.ledger.specs.Ledger.{Ledger}
-use Rattle.ledger.proofs.Blobs.{find-change, find-change-same, find-change-other, found-listed, not-listed, find-without-other, listed-find}
-use Rattle.ledger.proofs.Standing.{first, room, first-room, first-apart, Standing, Rows, moved, first-is}
-use Rattle.ledger.proofs.Done.{standing-sync, standing-truncate, standing-remove-top}
-use Rattle.ledger.proofs.Chain.{Chain, chain-append, chain-then, plain}
-use Rattle.ledger.proofs.Calculus.{rows-far, rows-kept, rows-kept-less}
-use Rattle.ledger.proofs.Runs.{Tied, SafeFor, Persisted, persist-rows}
-use Rattle.ledger.proofs.Trims.{SafeTo}
+use Rattle.ledger.proofs.Blobs.{find-change, find-change-same, find-change-other, found-listed, not-listed, find-without-other, listed-find, insert-here}
+use Rattle.ledger.proofs.Invariant.{first, room, first-room, first-apart, Standing, Rows, moved, first-is, SafeTo}
+use Rattle.ledger.proofs.Writes.{standing-sync, standing-truncate, standing-remove-top, rows-far, rows-kept, rows-kept-less}
+use Rattle.ledger.proofs.Chain.{chain-end, Chain, chain-append, chain-then, plain}
+use Rattle.ledger.proofs.Commits.{Tied, SafeFor, Persisted, persist-rows}
 use Rattle.ledger.proofs.Rows.{from-low, from-row, from-above, reverse-more}
 
 same-true : (w : Option ℕ) (m : ℕ) → same w (Some m) ≡ true → w ≡ Some m
 same-true None m e = let z : _≡_ {A = ℕ} 0 1 = cc in absurd (omega arith)
 same-true (Some v) m e = ap {B = Option ℕ} Some (eqb-true v m e)
-
--- a list of calls that is done leaves the disk that they make
-pub chain-end : (S Q : Disk → Type 0) (os : List Op) (d : Disk) → Chain S Q os d → Chain S (λ e. (e ≡ doneAll os d) × Q e) os d
-chain-end S Q [] d k = (refl, k)
-chain-end S Q (o ∷ os) d k = (k .0, chain-end S Q os (done o d) (k .1))
-
--- a blob that is there is not made again
-pub insert-here : (xs : Blobs) (lo k b : ℕ) → numbers xs ≡ count lo k → lo ≤ b → b < lo + k → insert b xs ≡ xs
-insert-here [] lo zero b n h g = absurd (omega arith)
-insert-here [] lo (suc k) b n h g = let z : _≡_ {A = ℕ} 0 1 = cc in absurd (omega arith)
-insert-here (x ∷ xs) lo zero b n h g = absurd (omega arith)
-insert-here (x ∷ xs) lo (suc k) b n h g =
-    let first : x .0 ≡ lo = cc in
-    let rest : numbers xs ≡ count (lo + 1) k = cc in
-    elim (cases-eq (x .0) b) [
-      | inl i ↦ grind (arith, tells)
-      | inr i ↦ let ih = insert-here xs (lo + 1) k b rest (omega arith) (omega arith) in grind (arith, tells)
-    ]
 
 module _ {R : Type 0} (c : Config) (enc : R → List ℕ) (zp : 0 < c .z) (ez : (r : R) → length (enc r) ≡ c .z) (l : Ledger R) (sure size : ℕ) (ks : l .kept ≤ sure) (from-start : l .start ≤ size) (to-far : size ≤ l .far) where
   -- the ledger of a publish that is stopped, and the one with all that is sure
@@ -92,7 +71,7 @@ module _ {R : Type 0} (c : Config) (enc : R → List ℕ) (zp : 0 < c .z) (ez : 
     now-saved = free;
   }
     where
-      low : Rattle.ledger.proofs.Standing.Lowest c (l .start) lo
+      low : Rattle.ledger.proofs.Invariant.Lowest c (l .start) lo
       low = w .rows .low
 
       at-top : (b : ℕ) (x : Blob) → find (e .blobs) b ≡ Some x → lo + y ≤ b → (lo + y ≡ b) × (x ≡ t)

@@ -21,9 +21,9 @@ use Rattle.rules.specs.Calls.{count}
 use Rattle.rules.specs.Open as open-rules
 use Rattle.ledger.specs.Ledger.{Ledger}
 use Rattle.ledger.proofs.Blobs.{found-listed, find-change-same, find-change-other}
-use Rattle.ledger.proofs.Standing.{first, room, first-is, room-is, Lowest, first-room, first-next, first-low, Fits, Standing}
+use Rattle.ledger.proofs.Invariant.{first, room, first-is, room-is, Lowest, first-room, first-next, first-low, Fits, Standing}
 use Rattle.ledger.proofs.Reach.{reachOf, full}
-use Rattle.ledger.proofs.Done.{standing-truncate}
+use Rattle.ledger.proofs.Writes.{standing-truncate}
 use Rattle.ledger.proofs.Chain.{plain}
 use Rattle.ledger.proofs.Plans.{Leads, leads-unless}
 

@@ -178,3 +178,13 @@ Safe c enc d l = Stands c enc d l ⊎ (Empty c d l ⊎ Staged d l)
 
 pub stands : {R : Type 0} (c : Config) (enc : R → List ℕ) {lo more : ℕ} (d : Disk) (l : Ledger R) → Standing c enc lo more d l → Stands c enc d l
 stands c enc {lo} {more} d l w = record { lo = lo; more = more; sure = l .kept; kept-sure = omega arith; standing = w }
+
+-- what logs in hand have -------------------------------------------------------------------------
+
+-- what is below the far end is sound
+abbrev pub Covers : {R : Type 0} → Config → Blobs → Ledger R → Type 0
+Covers c bs l = (b : ℕ) (x : Blob) (m : ℕ) → find bs b ≡ Some x → m ≤ room c (l .start) b → first c (l .start) b + m ≤ l .far → m * c .z ≤ x .sound
+
+-- every blob below a is safe as far as it is sound
+abbrev pub SafeTo : Blobs → ℕ → Type 0
+SafeTo bs a = (b : ℕ) (x : Blob) → find bs b ≡ Some x → b < a → x .sound ≤ x .safe

@@ -9,8 +9,8 @@ use Rattle.store.specs.declared.keys.Keys.{Keys}
 use Rattle.rules.specs.Rules.{Config}
 use Rattle.ledger.specs.Ledger.{Ledger, first, Falls}
 use Rattle.ledger.proofs.Blobs.{find-settled}
-use Rattle.ledger.proofs.Standing.{Still, KeysStand, Stands, Empty, Staged, Safe, Rows, moved}
-use Rattle.ledger.proofs.Calculus.{rows-weakened, rows-settled}
+use Rattle.ledger.proofs.Invariant.{Still, KeysStand, Stands, Empty, Staged, Safe, Rows, moved}
+use Rattle.ledger.proofs.Writes.{rows-weakened, rows-settled}
 use Rattle.ledger.proofs.Reach.{reachOf, reach-far, kept-reach, rows-reach}
 
 weakened-none : (ys : Blobs) → Weakened [] ys → ys ≡ []

@@ -18,8 +18,8 @@ use Rattle.rules.specs.Rules.{Config, blobOf, aligned, persist}
 use Rattle.rules.specs.Calls.{committing}
 use Rattle.ledger.specs.Ledger.{Ledger}
 use Rattle.ledger.proofs.Blobs.{find-change, find-change-same, find-change-other, found-listed, listed-find}
-use Rattle.ledger.proofs.Standing.{first, room, blob-is, first-room, HintStands, Standing, stands, Safe, Rows, moved}
-use Rattle.ledger.proofs.Done.{standing-sync, standing-kept}
+use Rattle.ledger.proofs.Invariant.{first, room, blob-is, first-room, HintStands, Standing, stands, Safe, Rows, moved}
+use Rattle.ledger.proofs.Writes.{standing-sync, standing-kept}
 use Rattle.ledger.proofs.Chain.{Chain, chain-append, chain-then, plain}
 
 pub record Tied {R : Type 0} (c : Config) (enc : R → List ℕ) (lo more : ℕ) (d : Disk) (l : Ledger R) (owed : Option ℕ) : Type 0 where
