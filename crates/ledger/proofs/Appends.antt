@@ -18,7 +18,7 @@ use Rattle.store.specs.Disk.{Blob, Disk, find, change, Op, Open, Append, Sync, 
 use Rattle.rules.specs.Rules.{MAX, Config, blobOf, aligned}
 use Rattle.rules.specs.Calls.{appending}
 use Rattle.ledger.specs.Ledger.{Ledger, appended, entered}
-use Rattle.ledger.proofs.Blobs.{find-change-same, find-change-other, listed-find, find-insert-same, find-insert-other, not-listed}
+use Rattle.ledger.proofs.Blobs.{impossible, find-change-same, find-change-other, listed-find, find-insert-same, find-insert-other, not-listed}
 use Rattle.ledger.proofs.Invariant.{first, room, blob-first, blob-is, first-room, first-next, Standing, Stands, stands, Safe}
 use Rattle.ledger.proofs.Writes.{standing-open, standing-append, standing-ahead, entered-below, joined-length}
 use Rattle.ledger.proofs.Chain.{Chain, Step, plain}
@@ -96,7 +96,7 @@ module _ {R : Type 0} (c : Config) (enc : R → List ℕ) (zp : 0 < c .z) (ez : 
   -- the highest blob is full: the next one is made
   pub stand-open : {lo more : ℕ} (l : Ledger R) (d : Disk) (b : ℕ) (r : Tied c enc lo more d l None) → b ≡ suc (lo + more) → l .end ≡ (lo + more) * c .n + c .n → Standing c enc lo (suc more) (done (Open b) d) l
   stand-open {lo} {more} l d b r e full = standing-open c enc l d (r .stand) zp b e (let n : b * c .n ≡ suc (lo + more) * c .n = ap (λ (j : ℕ). j * c .n) e in let f = r .stand .rows .far-most in let w = r .whole in omega arith) (λ k x i f. elim (r .safe k x f (omega arith)) [
-    | inl t ↦ let z : _≡_ {A = ℕ} 0 1 = cc in absurd (omega arith)
+    | inl t ↦ impossible cc
     | inr t ↦ t
   ])
 
@@ -119,7 +119,7 @@ module _ {R : Type 0} (c : Config) (enc : R → List ℕ) (zp : 0 < c .z) (ez : 
     safe = λ k x g h. elim (cases-eq t k) [
       | inl i ↦ inl (ap {B = Option ℕ} Some i)
       | inr i ↦ elim (r .safe k x (old k x g h) (omega arith)) [
-        | inl u ↦ let z : _≡_ {A = ℕ} 0 1 = cc in absurd (omega arith)
+        | inl u ↦ impossible cc
         | inr u ↦ inr u
       ]
     ];
@@ -191,7 +191,7 @@ module _ {R : Type 0} (c : Config) (enc : R → List ℕ) (zp : 0 < c .z) (ez : 
         tied = subst (λ (k : Ledger R). Tied c enc lo more d k o) (sym (appended-none l (r .whole)) ∙ g) r;
         inside = subst (λ (k : Ledger R). Inside c lo more k) (sym (appended-none l (r .whole)) ∙ g) (omega arith);
       }
-  last-chain l m d o [] e (b ∷ bs) r space at is most g = let z : _≡_ {A = ℕ} 0 1 = cc in absurd (omega arith)
+  last-chain l m d o [] e (b ∷ bs) r space at is most g = impossible cc
   last-chain l m d o (h ∷ hs) e [] r space at is most g = let a : 0 ≡ length (joined enc (h ∷ hs)) = ap (λ (t : List ℕ). length t) is in absurd (omega (arith, some-bytes h hs))
   last-chain {lo} {more} l m d o (h ∷ hs) e (b ∷ bs) r space at is most g =
       let q = r .ends in

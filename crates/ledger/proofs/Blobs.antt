@@ -12,6 +12,10 @@ use Rattle.std.specs.declared.option.Option.the-variants.{None, Some}
 use Rattle.store.specs.Disk.{Blob, Blobs, find, numbers, change, insert, without, blank, synced, settled, Weaker, Weakened}
 use Rattle.rules.specs.Calls.{count}
 
+-- from an equation between two constructors
+pub impossible : {A : Type 0} → _≡_ {A = ℕ} 0 1 → A
+impossible e = absurd (omega arith)
+
 -- change ----------------------------------------------------------------------------------------
 
 pub find-change-other : (f : Blob → Blob) (b k : ℕ) (xs : Blobs) → (b ≡ k → ⊥) → find (change f b xs) k ≡ find xs k
@@ -19,7 +23,7 @@ find-change-other f b k [] h = refl
 find-change-other f b k (x ∷ xs) h = let ih = find-change-other f b k xs h in grind (arith, tells)
 
 pub find-change-same : (f : Blob → Blob) (b : ℕ) (xs : Blobs) (x : Blob) → find xs b ≡ Some x → find (change f b xs) b ≡ Some (f x)
-find-change-same f b [] x e = let z : _≡_ {A = ℕ} 0 1 = cc in absurd (omega arith)
+find-change-same f b [] x e = impossible cc
 find-change-same f b (y ∷ ys) x e = let ih = find-change-same f b ys x in grind (arith, tells)
 
 pub numbers-change : (f : Blob → Blob) (b : ℕ) (xs : Blobs) → numbers (change f b xs) ≡ numbers xs
@@ -31,7 +35,7 @@ looked None = inl refl
 looked (Some x) = inr (x, refl)
 
 pub never : {A B : Type 0} (o : Option A) (x : A) → o ≡ None → o ≡ Some x → B
-never o x e f = let z : _≡_ {A = ℕ} 0 1 = cc in absurd (omega arith)
+never o x e f = impossible cc
 
 pub find-change-none : (f : Blob → Blob) (b : ℕ) (xs : Blobs) → find xs b ≡ None → find (change f b xs) b ≡ None
 find-change-none f b [] e = refl
@@ -56,7 +60,7 @@ find-change f b k xs y e = go (cases-eq b k)
 
 pub listed-find : (xs : Blobs) (lo k b : ℕ) → numbers xs ≡ count lo k → lo ≤ b → b < lo + k → (x : Blob) × (find xs b ≡ Some x)
 listed-find [] lo zero b e h g = absurd (omega arith)
-listed-find [] lo (suc k) b e h g = let z : _≡_ {A = ℕ} 0 1 = cc in absurd (omega arith)
+listed-find [] lo (suc k) b e h g = impossible cc
 listed-find (x ∷ xs) lo zero b e h g = absurd (omega arith)
 listed-find (x ∷ xs) lo (suc k) b e h g =
     let first : x .0 ≡ lo = cc in
@@ -67,8 +71,8 @@ listed-find (x ∷ xs) lo (suc k) b e h g =
     ]
 
 pub found-listed : (xs : Blobs) (lo k b : ℕ) (x : Blob) → numbers xs ≡ count lo k → find xs b ≡ Some x → (lo ≤ b) × (b < lo + k)
-found-listed [] lo k b x e f = let z : _≡_ {A = ℕ} 0 1 = cc in absurd (omega arith)
-found-listed (y ∷ ys) lo zero b x e f = let z : _≡_ {A = ℕ} 0 1 = cc in absurd (omega arith)
+found-listed [] lo k b x e f = impossible cc
+found-listed (y ∷ ys) lo zero b x e f = impossible cc
 found-listed (y ∷ ys) lo (suc k) b x e f =
     let first : y .0 ≡ lo = cc in
     let rest : numbers ys ≡ count (lo + 1) k = cc in
@@ -96,8 +100,8 @@ find-insert-same b (x ∷ xs) h = let ih = find-insert-same b xs in grind (arith
 
 pub numbers-insert-top : (xs : Blobs) (lo k b : ℕ) → b ≡ lo + k → numbers xs ≡ count lo k → numbers (insert b xs) ≡ count lo (suc k)
 numbers-insert-top [] lo zero b h e = grind arith
-numbers-insert-top [] lo (suc k) b h e = let z : _≡_ {A = ℕ} 0 1 = cc in absurd (omega arith)
-numbers-insert-top (x ∷ xs) lo zero b h e = let z : _≡_ {A = ℕ} 0 1 = cc in absurd (omega arith)
+numbers-insert-top [] lo (suc k) b h e = impossible cc
+numbers-insert-top (x ∷ xs) lo zero b h e = impossible cc
 numbers-insert-top (x ∷ xs) lo (suc k) b h e =
     let first : x .0 ≡ lo = cc in
     let rest : numbers xs ≡ count (lo + 1) k = cc in
@@ -107,7 +111,7 @@ numbers-insert-top (x ∷ xs) lo (suc k) b h e =
 -- a blob that is there is not made again
 pub insert-here : (xs : Blobs) (lo k b : ℕ) → numbers xs ≡ count lo k → lo ≤ b → b < lo + k → insert b xs ≡ xs
 insert-here [] lo zero b n h g = absurd (omega arith)
-insert-here [] lo (suc k) b n h g = let z : _≡_ {A = ℕ} 0 1 = cc in absurd (omega arith)
+insert-here [] lo (suc k) b n h g = impossible cc
 insert-here (x ∷ xs) lo zero b n h g = absurd (omega arith)
 insert-here (x ∷ xs) lo (suc k) b n h g =
     let first : x .0 ≡ lo = cc in
@@ -124,11 +128,11 @@ find-without-other b k [] h = refl
 find-without-other b k (x ∷ xs) h = let ih = find-without-other b k xs h in grind (arith, tells)
 
 pub numbers-without-low : (xs : Blobs) (lo k : ℕ) → numbers xs ≡ count lo (suc k) → numbers (without lo xs) ≡ count (lo + 1) k
-numbers-without-low [] lo k e = let z : _≡_ {A = ℕ} 0 1 = cc in absurd (omega arith)
+numbers-without-low [] lo k e = impossible cc
 numbers-without-low (x ∷ xs) lo k e = let first : x .0 ≡ lo = cc in let rest : numbers xs ≡ count (lo + 1) k = cc in grind (arith, tells)
 
 pub numbers-without-top : (xs : Blobs) (lo k b : ℕ) → b ≡ lo + k → numbers xs ≡ count lo (suc k) → numbers (without b xs) ≡ count lo k
-numbers-without-top [] lo k b h e = let z : _≡_ {A = ℕ} 0 1 = cc in absurd (omega arith)
+numbers-without-top [] lo k b h e = impossible cc
 numbers-without-top (x ∷ xs) lo zero b h e = let first : x .0 ≡ lo = cc in let rest : numbers xs ≡ [] = cc in grind (arith, tells)
 numbers-without-top (x ∷ xs) lo (suc k) b h e =
     let first : x .0 ≡ lo = cc in

@@ -17,7 +17,7 @@ use Rattle.store.specs.declared.keys.Keys.{Keys}
 use Rattle.rules.specs.Rules.{Config, blobOf, aligned, persist}
 use Rattle.rules.specs.Calls.{committing}
 use Rattle.ledger.specs.Ledger.{Ledger}
-use Rattle.ledger.proofs.Blobs.{find-change, find-change-same, find-change-other, found-listed, listed-find}
+use Rattle.ledger.proofs.Blobs.{impossible, find-change, find-change-same, find-change-other, found-listed, listed-find}
 use Rattle.ledger.proofs.Invariant.{first, room, blob-is, first-room, HintStands, Standing, stands, Safe, Rows, moved}
 use Rattle.ledger.proofs.Writes.{standing-sync, standing-kept}
 use Rattle.ledger.proofs.Chain.{Chain, chain-append, chain-then, plain}
@@ -104,7 +104,7 @@ module _ {R : Type 0} (c : Config) (enc : R → List ℕ) where
             | inr t ↦ inr t
           ]
         ];
-        owed-below = λ k e. let z : _≡_ {A = ℕ} 0 1 = cc in absurd (omega arith);
+        owed-below = λ k e. impossible cc;
         now-saved = n .now-saved;
       }
 
@@ -125,7 +125,7 @@ module _ {R : Type 0} (c : Config) (enc : R → List ℕ) where
       | inl t ↦ let i : o ≡ k = cc in inr (subst (λ (j : ℕ). room c (l .start) j * c .z ≤ x .safe) i (paid x (ap (λ (j : ℕ). find (d .blobs) j) i ∙ e)))
       | inr t ↦ inr t
     ];
-    owed-below = λ k e. let z : _≡_ {A = ℕ} 0 1 = cc in absurd (omega arith);
+    owed-below = λ k e. impossible cc;
     now-saved = n .now-saved;
   }
 
@@ -142,7 +142,7 @@ module _ {R : Type 0} (c : Config) (enc : R → List ℕ) where
         stand = standing-kept c enc l (done (Sync b) d) (n .stand) (l .end) (l .end) up to high (λ k x m e h g.
             elim (cases-lt k (lo + more)) [
               | inl i ↦ elim (n .safe k x e i) [
-                | inl t ↦ let z : _≡_ {A = ℕ} 0 1 = cc in absurd (omega arith)
+                | inl t ↦ impossible cc
                 | inr t ↦ let u = mul-le-mul-right (c .z) h in omega arith
               ]
               | inr i ↦ tail-safe k x m e i h g

@@ -20,6 +20,7 @@ use Rattle.rules.specs.Rules.{Config, blobOf, aligned, persist, firstIn, MAX, P
 use Rattle.rules.specs.Calls.{Running, keysFirst, same, has, anchored, anchor, goes, lastBlob, truncating, openIf, publish-rule, upOneByOne, truncate-rule, truncated, trimmed-append-rule, trimmed-sync-rule, trimmed-prune-rule}
 use Rattle.rules.specs.Open.{Opened, noEdge}
 use Rattle.ledger.specs.Ledger.{Ledger, appended, entry, pruneTo, Prune}
+use Rattle.ledger.proofs.Blobs.{impossible}
 use Rattle.ledger.proofs.Invariant.{first, HintFree, Standing, stands, Empty, Safe, moved, first-low}
 use Rattle.ledger.proofs.Chain.{Chain, chain-append, chain-then, plain, chain-end}
 use Rattle.ledger.proofs.Commits.{Tied, SafeFor, safe-same, safe-put, safe-drop}
@@ -111,7 +112,7 @@ module _ {R : Type 0} (c : Config) (enc : R → List ℕ) (np : 0 < c .n) (zp : 
         test = same (d .present .watermark) (Some mk) && same (d .present .hint) (cond (aligned c (l .start)) None (Some (l .start)))
 
         same-is : (v : Option ℕ) (m : ℕ) → same v (Some m) ≡ true → v ≡ Some m
-        same-is None m e = let z : _≡_ {A = ℕ} 0 1 = cc in absurd (omega arith)
+        same-is None m e = impossible cc
         same-is (Some v) m e = ap {B = Option ℕ} Some (eqb-true v m e)
 
     -- the first blob is made
@@ -145,7 +146,7 @@ module _ {R : Type 0} (c : Config) (enc : R → List ℕ) (np : 0 < c .n) (zp : 
           bytes = omega arith;
           full = λ k x f h. absurd (let o = one-found (0 / c .n) k x (subst (λ (bs : Blobs). find bs k ≡ Some x) bl f) in omega arith);
           safe = λ k x f h. absurd (let o = one-found (0 / c .n) k x (subst (λ (bs : Blobs). find bs k ≡ Some x) bl f) in omega arith);
-          owed-below = λ k f. let z : _≡_ {A = ℕ} 0 1 = cc in absurd (omega arith);
+          owed-below = λ k f. impossible cc;
           now-saved = b .now;
         }
 

@@ -18,6 +18,7 @@ use Rattle.rules.specs.Calls.{Running, truncate-rule, publish-rule, trimmed-app
 use Rattle.rules.specs.Reads.{when}
 use Rattle.ledger.specs.Ledger.{Ledger, Call, Open, Append, Truncate, Publish, Prune, Clear, Commit, Sync, Complete, Leave, offers, gives, refusal, entry, Left, cut, cutting, appended, kept-to-end, pruneTo}
 use Rattle.ledger.specs.Runs.{Log, fresh, over, opened, trimmed, staged, running, leaving, isLayout, packed, ruleOf}
+use Rattle.ledger.proofs.Blobs.{impossible}
 use Rattle.ledger.proofs.Invariant.{Staged, Safe, moved}
 use Rattle.ledger.proofs.Weakening.{safe-weakened}
 use Rattle.ledger.proofs.Chain.{Closed}
@@ -280,7 +281,7 @@ module _ {R : Type 0} (c : Config) (enc : R → List ℕ) (decodes : List ℕ �
     given {p} k x q e h = let i : q ≡ p = cc in subst (λ (r : Plan Log). Rules k x r) i h
 
     no-rule : {A : Type 0} {p : Plan Log} → None ≡ Some p → A
-    no-rule e = let z : _≡_ {A = ℕ} 0 1 = cc in absurd (omega arith)
+    no-rule e = impossible cc
 
     -- each call of the log in hand is as the ledger has it
     pub rule-event : (k : Log) (x : Call R) {p : Plan Log} → Small (d .blobs) → State c enc k l d → ruleOf c enc decodes k d x ≡ Some p → Rules k x p

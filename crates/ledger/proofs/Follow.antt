@@ -3,8 +3,6 @@ use mathlib.Core.Path.{_≡_, refl, sym, ap, _∙_, subst}
 use mathlib.Core.Logic.{_⊎_, inl, inr}
 use mathlib.Core.Bool.{Bool, true, false}
 use mathlib.Core.List.{List, [], _∷_}
-use Prim.Native.Nat.{ℕ}
-use native.Mathlib.Omega.{arith}
 use lib.ListN.{length}
 use lib.Dec.{leb, ltb}
 use Rattle.std.specs.declared.option.Option.{Option}
@@ -15,22 +13,22 @@ use Rattle.store.specs.declared.cause.Cause.{Cause}
 use Rattle.store.specs.declared.cause.Cause.the-variants.{Power, Range, NoRoom}
 use Rattle.store.specs.Disk.{Blob, Disk, View, find, Op, Open, Append, Truncate, Sync, Remove, Put, DropKey, SyncKeys, refusesUp, atBlob, causeIf, Made}
 use Rattle.rules.specs.Rules.{Plan, Fault, answer, refuse, ask, call, Step, Outcome, answered, refused, stopped, Follows}
-use Rattle.ledger.proofs.Blobs.{never}
+use Rattle.ledger.proofs.Blobs.{impossible, never}
 use Rattle.ledger.proofs.Chain.{Apt, Closed, not-made}
 use Rattle.ledger.proofs.Plans.{Leads-or}
 
 -- the one cause, besides the power, for which an apt call is refused
 room-only : (b : Bool) (y : Cause) → causeIf b NoRoom ≡ Some y → y ≡ NoRoom
 room-only true y e = cc
-room-only false y e = let z : _≡_ {A = ℕ} 0 1 = cc in absurd (omega arith)
+room-only false y e = impossible cc
 
 no-range : (b : Bool) (y : Cause) → b ≡ false → causeIf b Range ≡ Some y → y ≡ NoRoom
-no-range true y f e = let z : _≡_ {A = ℕ} 0 1 = cc in absurd (omega arith)
-no-range false y f e = let z : _≡_ {A = ℕ} 0 1 = cc in absurd (omega arith)
+no-range true y f e = impossible cc
+no-range false y f e = impossible cc
 
 apt-refused : (o : Op) (v : View) (y : Cause) → Apt o (v .disk) → refusesUp o v ≡ Some y → y ≡ NoRoom
 apt-refused (Open b) v y a e = elim (cases-bool (isSome (find (v .disk .blobs) b))) [
-  | inl i ↦ let z : _≡_ {A = ℕ} 0 1 = cc (e, cond-true (isSome (find (v .disk .blobs) b)) None (causeIf (leb (v .most) (length (v .disk .blobs))) NoRoom) i) in absurd (omega arith)
+  | inl i ↦ impossible (cc (e, cond-true (isSome (find (v .disk .blobs) b)) None (causeIf (leb (v .most) (length (v .disk .blobs))) NoRoom) i))
   | inr i ↦ room-only (leb (v .most) (length (v .disk .blobs))) y (sym (cond-false (isSome (find (v .disk .blobs) b)) None (causeIf (leb (v .most) (length (v .disk .blobs))) NoRoom) i) ∙ e)
 ]
 apt-refused (Append b bs) v y a e =
@@ -91,7 +89,7 @@ module _ {A : Type 0} (S : Disk → Type 0) (Q : A → Disk → Type 0) (F : Fau
     made = (refl, f .1);
   }))
   follows-leads (ask p) v w r up k (inl f) = follows-leads p v w r up (k .1) (f .1)
-  follows-leads (ask p) v w r up k (inr f) = let a = f .0 in let z : _≡_ {A = ℕ} 0 1 = cc in absurd (omega arith)
+  follows-leads (ask p) v w r up k (inr f) = let a = f .0 in impossible cc
   follows-leads (call o p) v w r up k (inl (u, does, f)) =
       more (follows-leads p u w r (does .1) (subst (λ (d : Disk). Leads-or S Q F p d) (sym (does .2)) (k .1)) f)
     where

@@ -5,7 +5,6 @@ use mathlib.Core.Logic.{_⊎_, inl, inr}
 use mathlib.Core.Bool.{Bool, true, false}
 use mathlib.Core.List.{List, [], _∷_, _++_, map, reverse}
 use lib.Dec.{ltb}
-use native.Mathlib.Omega.{arith}
 use Rattle.std.proofs.shelf.Tests.{cond-both}
 use Rattle.std.specs.declared.option.Option.{Option}
 use Rattle.std.specs.declared.option.Option.the-variants.{None, Some}
@@ -18,7 +17,7 @@ use Rattle.rules.specs.Calls.{truncating, truncated, truncate-rule, keysFirst, 
 use Rattle.ledger.specs.Ledger.{Ledger, Event, Called}
 use Rattle.ledger.specs.Runs.{Log, fresh, over, opened, trimmed, staged, running, leaving, ruleOf, Consecutive, Kind, Happened, InLine, InLineFor}
 use Rattle.ledger.specs.Ledger as ledger
-use Rattle.ledger.proofs.Blobs.{never}
+use Rattle.ledger.proofs.Blobs.{impossible, never}
 use Rattle.ledger.proofs.Invariant.{Safe}
 use Rattle.ledger.proofs.States.{State, Spans, trimmed-spans, state-safe}
 use Rattle.ledger.proofs.Law.{Sound, sound, holds}
@@ -146,12 +145,12 @@ module _ {R : Type 0} (c : Config) (writes : R → List ℕ) (decodes : List ℕ
   spans-free l o d (a, e, inr b) = let f = b .empty .target in (ap (λ (j : Keys). j .target) (b .now) ∙ f, f)
 
   given : (p : Plan Log) (k : Log) (l : Ledger R) (d : Disk) (m : ℕ) → State c writes k l d → ruleOf c writes decodes k d (ledger.Truncate m) ≡ Some p → TamePlan p × Free d
-  given p fresh l d m s e = let z : _≡_ {A = ℕ} 0 1 = cc in absurd (omega arith)
-  given p over l d m s e = let z : _≡_ {A = ℕ} 0 1 = cc in absurd (omega arith)
+  given p fresh l d m s e = impossible cc
+  given p over l d m s e = impossible cc
   given p (opened o) l d m s e = let i : leaving trimmed (truncate-rule c d o m) ≡ p = cc in (subst TamePlan i (tame-truncate c d o m), spans-free l o d s)
   given p (trimmed o) l d m s e = let i : leaving trimmed (truncate-rule c d o m) ≡ p = cc in (subst TamePlan i (tame-truncate c d o m), spans-free l o d (trimmed-spans c writes l o d s))
-  given p (staged t) l d m s e = let z : _≡_ {A = ℕ} 0 1 = cc in absurd (omega arith)
-  given p (running r) l d m s e = let z : _≡_ {A = ℕ} 0 1 = cc in absurd (omega arith)
+  given p (staged t) l d m s e = impossible cc
+  given p (running r) l d m s e = impossible cc
 
   in-line : badConfig c ≡ false → Kind c writes decodes → InLine c writes decodes
   in-line good kind = record {

@@ -17,7 +17,7 @@ use Rattle.rules.specs.Rules.{Config, badConfig, Outcome}
 use Rattle.ledger.specs.Ledger.{Ledger, first, Call, Open, Append, Truncate, Publish, Prune, Clear, Commit, Sync, Complete, Leave, End, Done, Refused, Stopped, Event, Restart, Called, Read, offers, after, inHand, Ends, shown, Agrees}
 use Rattle.ledger.specs.Runs.{Log, fresh, over, opened, trimmed, staged, running, spanOf, isLayout, endOf, logAfter, Happened, Kind, Law}
 use Rattle.ledger.specs.Ledger as hands
-use Rattle.ledger.proofs.Blobs.{never}
+use Rattle.ledger.proofs.Blobs.{impossible, never}
 use Rattle.ledger.proofs.Weakening.{safe-restarted, restart-falls, new-rests}
 use Rattle.ledger.proofs.Follow.{Answered, Turned, Halted, follows-leads}
 use Rattle.ledger.proofs.Opens.{Small}
@@ -50,7 +50,7 @@ none-offered Leave = refl
 -- a store whose log offers a call is up
 up-offered : {R : Type 0} (k : Log) (x : Call R) (v : View) → offers (handOf k) x ≡ true → Up k v → v .up ≡ true
 up-offered fresh x v e u = u
-up-offered over x v e u = let n = none-offered x in let z : _≡_ {A = ℕ} 0 1 = cc in absurd (omega arith)
+up-offered over x v e u = let n = none-offered x in impossible cc
 up-offered (opened o) x v e u = u
 up-offered (trimmed o) x v e u = u
 up-offered (staged t) x v e u = u

@@ -20,7 +20,7 @@ use Rattle.rules.specs.Rules.{Config, MAX, blobOf, firstIn, aligned, Plan, Faul
 use Rattle.rules.specs.Open.{Opened, noEdge, walkAll, Walked, examine, examineTwo, below, anyOver, startAt, weigh, open-rule, lowest, edgeAt, orMax, isBelow}
 use Rattle.rules.specs.Calls.{count}
 use Rattle.ledger.specs.Ledger.{Ledger}
-use Rattle.ledger.proofs.Blobs.{never, found-listed}
+use Rattle.ledger.proofs.Blobs.{impossible, never, found-listed}
 use Rattle.ledger.proofs.Invariant.{Still, rows-apart, first, room, first-is, Lowest, first-room, first-next, first-low, Fits, Rows, HintStands, Standing, Safe, moved}
 use Rattle.ledger.proofs.Reach.{reachOf, full, reach-from, kept-reach, reach-covers, reach-top}
 use Rattle.ledger.proofs.Plans.{Leads, leads-unless}
@@ -36,10 +36,10 @@ pub record Two (bs : Blobs) : Type 0 where
   pub is : bs ≡ rest ++ (second ∷ (top ∷ []))
 
 pub split-two : (bs : Blobs) (lo k : ℕ) → numbers bs ≡ count lo (suc (suc k)) → Two bs
-split-two [] lo k n = let z : _≡_ {A = ℕ} 0 1 = cc in absurd (omega arith)
-split-two (x ∷ []) lo k n = let z : _≡_ {A = ℕ} 0 1 = cc in absurd (omega arith)
+split-two [] lo k n = impossible cc
+split-two (x ∷ []) lo k n = impossible cc
 split-two (x ∷ (y ∷ [])) lo k n = record { rest = []; second = x; top = y; is = refl }
-split-two (x ∷ (y ∷ (z ∷ bs))) lo zero n = let z : _≡_ {A = ℕ} 0 1 = cc in absurd (omega arith)
+split-two (x ∷ (y ∷ (z ∷ bs))) lo zero n = impossible cc
 split-two (x ∷ (y ∷ (z ∷ bs))) lo (suc k) n =
     let rest : numbers (y ∷ (z ∷ bs)) ≡ count (lo + 1) (suc (suc k)) = cc in
     let t = split-two (y ∷ (z ∷ bs)) (lo + 1) k rest in
@@ -47,7 +47,7 @@ split-two (x ∷ (y ∷ (z ∷ bs))) lo (suc k) n =
 
 -- the places of the blobs of a row
 numbers-at : (zs ys : Blobs) (y : ℕ × Blob) (b k : ℕ) → numbers (zs ++ (y ∷ ys)) ≡ count b k → (y .0 ≡ b + length zs) × (b + length zs + suc (length ys) ≡ b + k) × (find (zs ++ (y ∷ ys)) (y .0) ≡ Some (y .1))
-numbers-at [] ys y b zero n = let z : _≡_ {A = ℕ} 0 1 = cc in absurd (omega arith)
+numbers-at [] ys y b zero n = impossible cc
 numbers-at [] ys y b (suc k) n =
     let head : y .0 ≡ b = cc in
     let rest : numbers ys ≡ count (b + 1) k = cc in
@@ -56,10 +56,10 @@ numbers-at [] ys y b (suc k) n =
   where
     numbers-length : (xs : Blobs) (b k : ℕ) → numbers xs ≡ count b k → length xs ≡ k
     numbers-length [] b zero n = refl
-    numbers-length [] b (suc k) n = let z : _≡_ {A = ℕ} 0 1 = cc in absurd (omega arith)
-    numbers-length (x ∷ xs) b zero n = let z : _≡_ {A = ℕ} 0 1 = cc in absurd (omega arith)
+    numbers-length [] b (suc k) n = impossible cc
+    numbers-length (x ∷ xs) b zero n = impossible cc
     numbers-length (x ∷ xs) b (suc k) n = let rest : numbers xs ≡ count (b + 1) k = cc in ap suc (numbers-length xs (b + 1) k rest)
-numbers-at (z ∷ zs) ys y b zero n = let w : _≡_ {A = ℕ} 0 1 = cc in absurd (omega arith)
+numbers-at (z ∷ zs) ys y b zero n = impossible cc
 numbers-at (z ∷ zs) ys y b (suc k) n =
     let head : z .0 ≡ b = cc in
     let rest : numbers (zs ++ (y ∷ ys)) ≡ count (b + 1) k = cc in
@@ -71,8 +71,8 @@ numbers-at (z ∷ zs) ys y b (suc k) n =
 -- the blobs below the edge are a row from the lowest
 below-row : (bs : Blobs) (b k edge : ℕ) → numbers bs ≡ count b k → (j : ℕ) × (numbers (below edge bs) ≡ count b j) × (j ≤ k) × ((i : ℕ) (x : Blob) → find (below edge bs) i ≡ Some x → find bs i ≡ Some x)
 below-row [] b zero edge n = (0, refl, omega arith, λ i x f. f)
-below-row [] b (suc k) edge n = let z : _≡_ {A = ℕ} 0 1 = cc in absurd (omega arith)
-below-row (x ∷ xs) b zero edge n = let z : _≡_ {A = ℕ} 0 1 = cc in absurd (omega arith)
+below-row [] b (suc k) edge n = impossible cc
+below-row (x ∷ xs) b zero edge n = impossible cc
 below-row (x ∷ xs) b (suc k) edge n =
     let head : x .0 ≡ b = cc in
     let rest : numbers xs ≡ count (b + 1) k = cc in
@@ -128,7 +128,7 @@ edge-sets c s far (Some k) np h g = elim (cases-bool (leb k s)) [
 reach-below : (c : Config) (s top lo edge : ℕ) (low : Lowest c s lo) (zp : 0 < c .z) → ((i : ℕ) → edge ≤ i → top ≤ first c s i)
     → (xs : Blobs) (b k e : ℕ) → numbers xs ≡ count b k → lo ≤ b → e ≡ first c s b → min (reachOf c s e (below edge xs)) top ≡ min (reachOf c s e xs) top
 reach-below c s top lo edge low zp past [] b k e n h i = refl
-reach-below c s top lo edge low zp past (x ∷ xs) b zero e n h i = let z : _≡_ {A = ℕ} 0 1 = cc in absurd (omega arith)
+reach-below c s top lo edge low zp past (x ∷ xs) b zero e n h i = impossible cc
 reach-below c s top lo edge low zp past (x ∷ xs) b (suc k) e n h i =
     let head : x .0 ≡ b = cc in
     let rest : numbers xs ≡ count (b + 1) k = cc in
@@ -158,7 +158,7 @@ reach-below c s top lo edge low zp past (x ∷ xs) b (suc k) e n h i =
 
 none-over : (c : Config) (bs : Blobs) (b k : ℕ) → numbers bs ≡ count b k → ((j : ℕ) → j < b + k → j * c .n ≤ MAX) → anyOver c bs ≡ false
 none-over c [] b k n h = refl
-none-over c (x ∷ xs) b zero n h = let z : _≡_ {A = ℕ} 0 1 = cc in absurd (omega arith)
+none-over c (x ∷ xs) b zero n h = impossible cc
 none-over c (x ∷ xs) b (suc k) n h =
     let head : x .0 ≡ b = cc in
     let rest : numbers xs ≡ count (b + 1) k = cc in
@@ -170,7 +170,7 @@ seen-two : (c : Config) (s top : ℕ) (zs : Blobs) (y x y′ x′ : ℕ × Blob)
     → ((z : ℕ × Blob) → find (zs ++ (y ∷ (x ∷ []))) (z .0) ≡ Some (z .1) → z .0 < y .0 → Seen c s top z z)
     → Seen c s top y y′ → Seen c s top x x′ → AllSeen c s top (zs ++ (y ∷ (x ∷ []))) (zs ++ (y′ ∷ (x′ ∷ [])))
 seen-two c s top [] y x y′ x′ b k n h p q = (p, (q, tt))
-seen-two c s top (z ∷ zs) y x y′ x′ b zero n h p q = let w : _≡_ {A = ℕ} 0 1 = cc in absurd (omega arith)
+seen-two c s top (z ∷ zs) y x y′ x′ b zero n h p q = impossible cc
 seen-two c s top (z ∷ zs) y x y′ x′ b (suc k) n h p q =
     let head : z .0 ≡ b = cc in
     let rest : numbers (zs ++ (y ∷ (x ∷ []))) ≡ count (b + 1) k = cc in
@@ -193,7 +193,7 @@ start-aligned c s lo low e =
     omega arith
 
 unrefused-is : {A : Type 0} (b : Bool) (f : Fault) (p : Plan A) → b ≡ false → refuseIf b f p ≡ p
-unrefused-is true f p e = let z : _≡_ {A = ℕ} 0 1 = cc in absurd (omega arith)
+unrefused-is true f p e = impossible cc
 unrefused-is false f p e = refl
 
 module _ {A : Type 0} (c : Config) (s lo : ℕ) (low : Lowest c s lo) (k : ℕ → Plan A) (top : lo * c .n ≤ MAX) where
@@ -215,10 +215,10 @@ module _ {A : Type 0} (c : Config) (s lo : ℕ) (low : Lowest c s lo) (k : ℕ �
       (λ e. cond-true (eqb (blobOf c s) lo) (k s) (refuse (Corruption 1)) (eq-eqb (blobOf c s) lo (start-blob c s lo low)))
 
   pub start-is : (h : Option ℕ) → HintStands c s h → startAt c h (Some lo) k ≡ k s
-  start-is None (inl e) = let z : _≡_ {A = ℕ} 0 1 = cc in absurd (omega arith)
+  start-is None (inl e) = impossible cc
   start-is None (inr (a, f)) = unrefused-is (ltb MAX (lo * c .n)) OffsetOverflow _ (le-ltb MAX (lo * c .n) top) ∙ ap k (sym (start-aligned c s lo low a))
   start-is (Some v) (inl e) = let i : v ≡ s = cc in ap (λ (j : ℕ). startAt c (Some j) (Some lo) k) i ∙ used
-  start-is (Some v) (inr (a, inl e)) = let z : _≡_ {A = ℕ} 0 1 = cc in absurd (omega arith)
+  start-is (Some v) (inr (a, inl e)) = impossible cc
   start-is (Some v) (inr (a, inr (u, e, inl f))) =
       let i : v ≡ u = cc in
       free v (start-aligned c s lo low a) (or-left (aligned c v) (ltb (blobOf c v) lo) (eq-eqb (v % c .n) 0 (ap (λ (j : ℕ). j % c .n) i ∙ f)))
@@ -278,17 +278,17 @@ module _ {R : Type 0} (c : Config) (enc : R → List ℕ) (zp : 0 < c .z) where
 -- the whole -------------------------------------------------------------------------------------
 
 lowest-is : (bs : Blobs) (lo k : ℕ) → numbers bs ≡ count lo (suc k) → lowest bs ≡ Some lo
-lowest-is [] lo k n = let z : _≡_ {A = ℕ} 0 1 = cc in absurd (omega arith)
+lowest-is [] lo k n = impossible cc
 lowest-is (x ∷ xs) lo k n = ap {B = Option ℕ} Some (let e : x .0 ≡ lo = cc in e)
 
 one-only : (bs : Blobs) (lo : ℕ) → numbers bs ≡ count lo (suc 0) → (x : ℕ × Blob) × (bs ≡ x ∷ []) × (x .0 ≡ lo)
-one-only [] lo n = let z : _≡_ {A = ℕ} 0 1 = cc in absurd (omega arith)
+one-only [] lo n = impossible cc
 one-only (x ∷ []) lo n = (x, refl, let e : x .0 ≡ lo = cc in e)
-one-only (x ∷ (y ∷ bs)) lo n = let z : _≡_ {A = ℕ} 0 1 = cc in absurd (omega arith)
+one-only (x ∷ (y ∷ bs)) lo n = impossible cc
 
 none-only : (bs : Blobs) (lo : ℕ) → numbers bs ≡ count lo 0 → bs ≡ []
 none-only [] lo n = refl
-none-only (x ∷ xs) lo n = let z : _≡_ {A = ℕ} 0 1 = cc in absurd (omega arith)
+none-only (x ∷ xs) lo n = impossible cc
 
 -- what comes after the start is found
 abbrev pub searched : Config → Option ℕ → ℕ → Blobs → ℕ → Plan Opened

@@ -1,12 +1,11 @@
 -- Plans: where they lead, and what holds wherever they stop.
-use Prim.Native.Nat.{ℕ}
 use mathlib.Core.Path.{_≡_, refl}
 use mathlib.Core.Bool.{Bool, true, false}
 use mathlib.Core.List.{List, [], _∷_}
-use native.Mathlib.Omega.{arith}
 use Rattle.store.specs.Disk.{Disk, Op, done}
 use Rattle.rules.specs.Rules.{Plan, Fault, answer, refuse, ask, call, calls, refuseIf}
 use Rattle.ledger.specs.Runs.{Log, leaving}
+use Rattle.ledger.proofs.Blobs.{impossible}
 use Rattle.ledger.proofs.Chain.{Chain, Step}
 
 -- wherever a plan stops, S; where it answers, Q; where it refuses, F
@@ -24,7 +23,7 @@ abbrev pub Leads : {A : Type 0} → (Disk → Type 0) → (A → Disk → Type 0
 Leads S Q p d = Leads-or S Q unrefused p d
 
 pub leads-unless : {A : Type 0} (S : Disk → Type 0) (Q : A → Disk → Type 0) (b : Bool) (f : Fault) (p : Plan A) (d : Disk) → b ≡ false → Leads S Q p d → Leads S Q (refuseIf b f p) d
-leads-unless S Q true f p d e k = let z : _≡_ {A = ℕ} 0 1 = cc in absurd (omega arith)
+leads-unless S Q true f p d e k = impossible cc
 leads-unless S Q false f p d e k = k
 
 -- a test that is refused as F says, or else passed

@@ -11,7 +11,7 @@ use Rattle.store.specs.Disk.{Blob, Disk, find, Op, Remove, done, without}
 use Rattle.rules.specs.Rules.{Config, aligned}
 use Rattle.rules.specs.Calls.{committing, count}
 use Rattle.ledger.specs.Ledger.{Ledger}
-use Rattle.ledger.proofs.Blobs.{found-listed, listed-find, find-without-other}
+use Rattle.ledger.proofs.Blobs.{impossible, found-listed, listed-find, find-without-other}
 use Rattle.ledger.proofs.Invariant.{first, room, blob-first, stands, Safe, moved, first-later, room-later, rows-apart}
 use Rattle.ledger.proofs.Writes.{standing-remove-low}
 use Rattle.ledger.proofs.Chain.{Chain, chain-append, chain-then, plain, chain-stop}
@@ -44,7 +44,7 @@ module _ {R : Type 0} (c : Config) (enc : R → List ℕ) where
         bytes = r .bytes;
         full = λ b x e h. rw (room-later c (l .start) lo low b (above b x e)) (r .full b x (old b x e) (omega arith));
         safe = λ b x e h. rw (room-later c (l .start) lo low b (above b x e)) (r .safe b x (old b x e) (omega arith));
-        owed-below = λ k e. let z : _≡_ {A = ℕ} 0 1 = cc in absurd (omega arith);
+        owed-below = λ k e. impossible cc;
         now-saved = r .now-saved;
       }
 

@@ -15,7 +15,7 @@ use Rattle.store.specs.Disk.{Blob, Blobs, find, numbers}
 use Rattle.rules.specs.Rules.{Config}
 use Rattle.rules.specs.Calls.{count}
 use Rattle.ledger.specs.Ledger.{Ledger}
-use Rattle.ledger.proofs.Blobs.{never, found-listed}
+use Rattle.ledger.proofs.Blobs.{impossible, never, found-listed}
 use Rattle.ledger.proofs.Invariant.{first, room, Lowest, first-room, first-next, first-low, first-apart, room-some, Fits, Reached, Rows, moved}
 use Rattle.ledger.proofs.Writes.{rows-far}
 
@@ -40,7 +40,7 @@ div-within z a so f at l = go (so / z) refl
 module _ (c : Config) (s lo : ℕ) (low : Lowest c s lo) (zp : 0 < c .z) where
   pub reach-from : (xs : Blobs) (b k e : ℕ) → numbers xs ≡ count b k → lo ≤ b → e ≤ first c s b → e ≤ reachOf c s e xs
   reach-from [] b k e n h g = omega arith
-  reach-from (x ∷ xs) b zero e n h g = let z : _≡_ {A = ℕ} 0 1 = cc in absurd (omega arith)
+  reach-from (x ∷ xs) b zero e n h g = impossible cc
   reach-from (x ∷ xs) b (suc k) e n h g =
       let head : x .0 ≡ b = cc in
       let rest : numbers xs ≡ count (b + 1) k = cc in
@@ -57,7 +57,7 @@ module _ (c : Config) (s lo : ℕ) (low : Lowest c s lo) (zp : 0 < c .z) where
       → ((j : ℕ) (x : Blob) → find xs j ≡ Some x → Fits c s j x)
       → (j : ℕ) (x : Blob) (m : ℕ) → find xs j ≡ Some x → FullTo c s xs j → suc m * c .z ≤ x .sound → first c s j + m < reachOf c s e xs
   reach-above [] b k e n h fits j x m f q o = never (find [] j) x refl f
-  reach-above (y ∷ xs) b zero e n h fits j x m f q o = let z : _≡_ {A = ℕ} 0 1 = cc in absurd (omega arith)
+  reach-above (y ∷ xs) b zero e n h fits j x m f q o = impossible cc
   reach-above (y ∷ xs) b (suc k) e n h fits j x m f q o =
       let head : y .0 ≡ b = cc in
       let rest : numbers xs ≡ count (b + 1) k = cc in
@@ -95,7 +95,7 @@ module _ (c : Config) (s lo : ℕ) (low : Lowest c s lo) (zp : 0 < c .z) where
       → ((j : ℕ) (x : Blob) (m : ℕ) → find xs j ≡ Some x → FullTo c s xs j → suc m * c .z ≤ x .sound → first c s j + m < f)
       → reachOf c s e xs ≤ f
   reach-within [] b k e f n h g g′ o = g′
-  reach-within (y ∷ xs) b zero e f n h g g′ o = let z : _≡_ {A = ℕ} 0 1 = cc in absurd (omega arith)
+  reach-within (y ∷ xs) b zero e f n h g g′ o = impossible cc
   reach-within (y ∷ xs) b (suc k) e f n h g g′ o =
       let head : y .0 ≡ b = cc in
       let rest : numbers xs ≡ count (b + 1) k = cc in
@@ -135,8 +135,8 @@ module _ (c : Config) (s lo : ℕ) (low : Lowest c s lo) (zp : 0 < c .z) where
       → ((j : ℕ) (x : Blob) (m : ℕ) → find xs j ≡ Some x → m ≤ room c s j → first c s j + m ≤ kept → m * c .z ≤ x .sound)
       → kept ≤ reachOf c s e xs
   reach-kept [] b zero e kept n h g g′ o = g refl
-  reach-kept [] b (suc k) e kept n h g g′ o = let z : _≡_ {A = ℕ} 0 1 = cc in absurd (omega arith)
-  reach-kept (y ∷ xs) b zero e kept n h g g′ o = let z : _≡_ {A = ℕ} 0 1 = cc in absurd (omega arith)
+  reach-kept [] b (suc k) e kept n h g g′ o = impossible cc
+  reach-kept (y ∷ xs) b zero e kept n h g g′ o = impossible cc
   reach-kept (y ∷ xs) b (suc k) e kept n h g g′ o =
       let head : y .0 ≡ b = cc in
       let rest : numbers xs ≡ count (b + 1) k = cc in
@@ -170,7 +170,7 @@ module _ (c : Config) (s lo : ℕ) (low : Lowest c s lo) (zp : 0 < c .z) where
   pub reach-covers : (xs : Blobs) (b k e : ℕ) → numbers xs ≡ count b k → lo ≤ b → ((j : ℕ) (x : Blob) → find xs j ≡ Some x → Fits c s j x)
       → (j : ℕ) (x : Blob) (m : ℕ) → find xs j ≡ Some x → m ≤ room c s j → first c s j + m ≤ reachOf c s e xs → m * c .z ≤ x .sound
   reach-covers [] b k e n h fits j x m f l g = never (find [] j) x refl f
-  reach-covers (y ∷ xs) b zero e n h fits j x m f l g = let z : _≡_ {A = ℕ} 0 1 = cc in absurd (omega arith)
+  reach-covers (y ∷ xs) b zero e n h fits j x m f l g = impossible cc
   reach-covers (y ∷ xs) b (suc k) e n h fits j x m f l g =
       let head : y .0 ≡ b = cc in
       let rest : numbers xs ≡ count (b + 1) k = cc in
@@ -211,8 +211,8 @@ module _ (c : Config) (s lo : ℕ) (low : Lowest c s lo) (zp : 0 < c .z) where
 
   pub reach-top : (xs : Blobs) (b k e : ℕ) → numbers xs ≡ count b k → lo ≤ b → (k ≡ 0 → e ≤ b * c .n) → reachOf c s e xs ≤ (b + k) * c .n
   reach-top [] b zero e n h g = let t = g refl in let z : (b + 0) * c .n ≡ b * c .n = ap (λ (j : ℕ). j * c .n) (omega arith) in omega arith
-  reach-top [] b (suc k) e n h g = let z : _≡_ {A = ℕ} 0 1 = cc in absurd (omega arith)
-  reach-top (y ∷ xs) b zero e n h g = let z : _≡_ {A = ℕ} 0 1 = cc in absurd (omega arith)
+  reach-top [] b (suc k) e n h g = impossible cc
+  reach-top (y ∷ xs) b zero e n h g = impossible cc
   reach-top (y ∷ xs) b (suc k) e n h g =
       let head : y .0 ≡ b = cc in
       let rest : numbers xs ≡ count (b + 1) k = cc in

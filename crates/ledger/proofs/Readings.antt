@@ -23,7 +23,7 @@ use Rattle.rules.specs.Rules.{Config, firstIn, Fault, answered}
 use Rattle.rules.specs.Reads.{when, falling, outside, lacking, bytesOf, Copy, copied, Reading, decoded, reading, unless, ended}
 use Rattle.ledger.specs.Ledger.{Ledger, Ask, One, Many, Reads, denial}
 use Rattle.ledger.specs.Runs.{readBy, told}
-use Rattle.ledger.proofs.Blobs.{listed-find, found-listed}
+use Rattle.ledger.proofs.Blobs.{impossible, listed-find, found-listed}
 use Rattle.ledger.proofs.Invariant.{first, room, first-is, first-room, first-apart, Rows, Held}
 
 -- which positions are inside
@@ -32,7 +32,7 @@ Inside-all s e [] = Unit {0}
 Inside-all s e (p ∷ ps) = (s ≤ p) × (p < e) × Inside-all s e ps
 
 when-none : (b : Bool) (f : Fault) (o : Option Fault) → when b f o ≡ None → (b ≡ false) × (o ≡ None)
-when-none true f o e = let z : _≡_ {A = ℕ} 0 1 = cc in absurd (omega arith)
+when-none true f o e = impossible cc
 when-none false f o e = (refl, e)
 
 pub outside-none : (s e : ℕ) (ps : List ℕ) (o : Option Fault) → outside s e ps o ≡ None → Inside-all s e ps × (o ≡ None)

@@ -15,7 +15,7 @@ use Rattle.rules.specs.Rules.{Config, blobOf, persist, MAX, Plan, answer, calls
 use Rattle.rules.specs.Calls.{Running, same, from, truncating, upOneByOne, truncate-rule, publish-rule, truncated}
 use Rattle.rules.specs.Open.{Opened, noEdge}
 use Rattle.ledger.specs.Ledger.{Ledger}
-use Rattle.ledger.proofs.Blobs.{found-listed}
+use Rattle.ledger.proofs.Blobs.{impossible, found-listed}
 use Rattle.ledger.proofs.Invariant.{first, room, first-room, moved}
 use Rattle.ledger.proofs.Chain.{Chain, chain-append, chain-then, chain-end}
 use Rattle.ledger.proofs.Truncates.{Cut-to, truncate-chain}
@@ -164,7 +164,7 @@ module _ {R : Type 0} (c : Config) (enc : R → List ℕ) (l : Ledger R) (o : Op
     ];
     sealed = λ b x f g. elim (cases-lt b hi) [
       | inl i ↦ elim (r .safe b x f i) [
-        | inl u ↦ let z : _≡_ {A = ℕ} 0 1 = cc in absurd (omega arith)
+        | inl u ↦ impossible cc
         | inr u ↦ u
       ]
       | inr i ↦

@@ -15,6 +15,7 @@ use Rattle.rules.specs.Rules.{Config, MAX, blobOf, aligned, Plan, Fault, answer
 use Rattle.rules.specs.Open.{Opened, noEdge, weigh, open-rule, edgeAt, orMax, isBelow}
 use Rattle.rules.specs.Open as open-rules
 use Rattle.ledger.specs.Ledger.{Ledger, Open, lower, refusal, entry}
+use Rattle.ledger.proofs.Blobs.{impossible}
 use Rattle.ledger.proofs.Invariant.{Still, KeysStand, HintFree, Stands, stands, Empty, Staged, Safe, moved}
 use Rattle.ledger.proofs.Reach.{reachOf}
 use Rattle.ledger.proofs.Weakening.{Rest}
@@ -45,7 +46,7 @@ module _ {R : Type 0} (c : Config) (enc : R → List ℕ) (np : 0 < c .n) (zp : 
   end-is far (Some k) h = refl
 
   denied : (l : Ledger R) (k : Option ℕ) → isBelow k (l .start) ≡ true → refusal c l (Open k) ≡ Some (ItemPruned (orMax k))
-  denied l None e = let z : _≡_ {A = ℕ} 0 1 = cc in absurd (omega arith)
+  denied l None e = impossible cc
   denied l (Some k) e = cond-true (ltb k (l .start)) (Some (ItemPruned k)) None e
 
   passed : (l : Ledger R) (k : Option ℕ) → isBelow k (l .start) ≡ false → refusal c l (Open k) ≡ None
@@ -112,13 +113,13 @@ module _ {R : Type 0} (c : Config) (enc : R → List ℕ) (np : 0 < c .n) (zp : 
 
     empty-end : (m : Option ℕ) → Empty c d l → l .far ≡ 0 → (m ≡ None) ⊎ (m ≡ Some 0) → Leads S (Shows l) (weigh c 0 ceiling (edgeAt c 0 ceiling) m (open-rules.stands 0 false)) d
     empty-end None w far mm = bare (Rattle.rules.specs.Rules.firstIn c 0 (blobOf c 0)) (edgeAt c 0 ceiling) w far
-    empty-end (Some v) w far (inl e) = let z : _≡_ {A = ℕ} 0 1 = cc in absurd (omega arith)
+    empty-end (Some v) w far (inl e) = impossible cc
     empty-end (Some v) w far (inr e) =
         let i : v ≡ 0 = cc in
         leads-unless S (Shows l) (ltb 0 (min v (orMax ceiling))) (Corruption 5) _ d (le-ltb 0 (min v (orMax ceiling)) (omega arith)) (bare (min v (orMax ceiling)) (edgeAt c 0 ceiling) w far)
 
     hint-aligned : (h : ℕ) → HintFree c 0 (Some h) → aligned c h ≡ true
-    hint-aligned h (inl e) = let z : _≡_ {A = ℕ} 0 1 = cc in absurd (omega arith)
+    hint-aligned h (inl e) = impossible cc
     hint-aligned h (inr (v, e, inl f)) = let i : h ≡ v = cc in eq-eqb (h % c .n) 0 (ap (λ (j : ℕ). j % c .n) i ∙ f)
     hint-aligned h (inr (v, e, inr f)) = absurd (omega arith)
 

@@ -14,6 +14,7 @@ use Rattle.rules.specs.Open.{Opened}
 use Rattle.ledger.specs.Ledger.{Ledger, Hand, Ask, Reads, shown}
 use Rattle.ledger.specs.Runs.{Log, fresh, over, opened, trimmed, staged, running, onLog, spanOf, readBy}
 use Rattle.ledger.specs.Ledger as hands
+use Rattle.ledger.proofs.Blobs.{impossible}
 use Rattle.ledger.proofs.Invariant.{stands, Staged, Safe}
 use Rattle.ledger.proofs.Weakening.{Rest, rest-safe}
 use Rattle.ledger.proofs.Cuts.{Cuttable}
@@ -123,9 +124,9 @@ module _ {R : Type 0} (c : Config) (enc : R → List ℕ) where
 
     -- every read of a log gives the records handed in
     pub state-reads : (k : Log) (s : ℕ × ℕ) (q : Ask) → Up k v → State k l (v .disk) → spanOf k ≡ Some s → (hands.isLog (handOf k) ≡ true) × Reads c l v q (readBy c enc decodes s v q)
-    state-reads fresh s q up w e = let z : _≡_ {A = ℕ} 0 1 = cc in absurd (omega arith)
-    state-reads over s q up w e = let z : _≡_ {A = ℕ} 0 1 = cc in absurd (omega arith)
+    state-reads fresh s q up w e = impossible cc
+    state-reads over s q up w e = impossible cc
     state-reads (opened o) s q up w e = (refl, agrees s (o .start) (o .end) q e (w .0) (w .1) (spans-good o up w))
     state-reads (trimmed o) s q up w e = let t = trimmed-spans l o (v .disk) w in (refl, agrees s (o .start) (o .end) q e (t .0) (t .1) (spans-good o up t))
-    state-reads (staged t) s q up w e = let z : _≡_ {A = ℕ} 0 1 = cc in absurd (omega arith)
+    state-reads (staged t) s q up w e = impossible cc
     state-reads (running r) s q up w e = (refl, agrees s (r .start) (r .end) q e (w .start) (w .end) (run-good c enc decodes ez back l r v up w))

@@ -15,7 +15,7 @@ use Rattle.store.specs.declared.keys.Keys.{Keys}
 use Rattle.rules.specs.Rules.{Config, blobOf, aligned, persist, MAX}
 use Rattle.rules.specs.Calls.{same, has, from, upTo, openIf, count}
 use Rattle.ledger.specs.Ledger.{Ledger, appended}
-use Rattle.ledger.proofs.Blobs.{find-change, found-listed, find-insert-other, listed-find, insert-here}
+use Rattle.ledger.proofs.Blobs.{impossible, find-change, found-listed, find-insert-other, listed-find, insert-here}
 use Rattle.ledger.proofs.Invariant.{first, blob-first, blob-is, first-room, stands, moved}
 use Rattle.ledger.proofs.Writes.{standing-kept}
 use Rattle.ledger.proofs.Chain.{Chain, chain-then, plain}
@@ -50,7 +50,7 @@ module _ {R : Type 0} (c : Config) (enc : R → List ℕ) (zp : 0 < c .z) (ez : 
         stand = standing-kept c enc l d (r .stand) (l .end) (l .end) up to (all-below l d r) (λ k x m e h g.
             elim (cases-lt k (lo + more)) [
               | inl i ↦ elim (r .safe k x e i) [
-                | inl t ↦ let z : _≡_ {A = ℕ} 0 1 = cc in absurd (omega arith)
+                | inl t ↦ impossible cc
                 | inr t ↦ let u = mul-le-mul-right (c .z) h in omega arith
               ]
               | inr i ↦

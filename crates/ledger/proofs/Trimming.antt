@@ -17,6 +17,7 @@ use Rattle.rules.specs.Rules.{Config, blobOf, aligned, persist, MAX, Plan, answ
 use Rattle.rules.specs.Calls.{has, upTo, openIf, trimmed-append-rule, trimmed-sync-rule, trimmed-prune-rule, complete-rule, stage-rule}
 use Rattle.rules.specs.Open.{Opened, noEdge}
 use Rattle.ledger.specs.Ledger.{Ledger, appended, entry, Prune}
+use Rattle.ledger.proofs.Blobs.{impossible}
 use Rattle.ledger.proofs.Invariant.{first, stands, Staged, Safe, moved, first-low}
 use Rattle.ledger.proofs.Chain.{chain-then}
 use Rattle.ledger.proofs.Prunes.{PruneStops}
@@ -147,7 +148,7 @@ module _ {R : Type 0} (c : Config) (enc : R → List ℕ) (np : 0 < c .n) (zp : 
         bytes = omega arith;
         full = λ i x f h. absurd (let o = one-found b i x (subst (λ (bs : Blobs). find bs i ≡ Some x) (q .blobs) f) in omega arith);
         safe = λ i x f h. absurd (let o = one-found b i x (subst (λ (bs : Blobs). find bs i ≡ Some x) (q .blobs) f) in omega arith);
-        owed-below = λ i f. let z : _≡_ {A = ℕ} 0 1 = cc in absurd (omega arith);
+        owed-below = λ i f. impossible cc;
         now-saved = sym (q .saved);
       }
 

@@ -19,7 +19,7 @@ use Rattle.rules.specs.Rules.{Config, blobOf, aligned, persist, firstIn}
 use Rattle.rules.specs.Calls.{keysFirst, same, has, from, upTo, isEmpty, anchored, goes, anchor, lastBlob, truncating, count}
 use Rattle.rules.specs.Open.{Opened}
 use Rattle.ledger.specs.Ledger.{Ledger}
-use Rattle.ledger.proofs.Blobs.{find-change, find-change-same, find-change-other, found-listed, not-listed, find-without-other, listed-find, insert-here}
+use Rattle.ledger.proofs.Blobs.{impossible, find-change, find-change-same, find-change-other, found-listed, not-listed, find-without-other, listed-find, insert-here}
 use Rattle.ledger.proofs.Invariant.{first, room, first-room, first-apart, Standing, Rows, moved, first-is, SafeTo}
 use Rattle.ledger.proofs.Writes.{standing-sync, standing-truncate, standing-remove-top, rows-far, rows-kept, rows-kept-less}
 use Rattle.ledger.proofs.Chain.{chain-end, Chain, chain-append, chain-then, plain}
@@ -27,7 +27,7 @@ use Rattle.ledger.proofs.Commits.{Tied, SafeFor, Persisted, persist-rows}
 use Rattle.ledger.proofs.Rows.{from-low, from-row, from-above, reverse-more}
 
 same-true : (w : Option ℕ) (m : ℕ) → same w (Some m) ≡ true → w ≡ Some m
-same-true None m e = let z : _≡_ {A = ℕ} 0 1 = cc in absurd (omega arith)
+same-true None m e = impossible cc
 same-true (Some v) m e = ap {B = Option ℕ} Some (eqb-true v m e)
 
 module _ {R : Type 0} (c : Config) (enc : R → List ℕ) (zp : 0 < c .z) (ez : (r : R) → length (enc r) ≡ c .z) (l : Ledger R) (sure size : ℕ) (ks : l .kept ≤ sure) (from-start : l .start ≤ size) (to-far : size ≤ l .far) where
@@ -67,7 +67,7 @@ module _ {R : Type 0} (c : Config) (enc : R → List ℕ) (zp : 0 < c .z) (ez : 
     bytes = bytes;
     full = full;
     safe = λ b x f h. let a = full b x f h in let s = safe b x f h in inr (omega arith);
-    owed-below = λ b f. let z : _≡_ {A = ℕ} 0 1 = cc in absurd (omega arith);
+    owed-below = λ b f. impossible cc;
     now-saved = free;
   }
     where
@@ -488,7 +488,7 @@ module _ {R : Type 0} (c : Config) (enc : R → List ℕ) (zp : 0 < c .z) (ez : 
             ]
           where
             or-false : (x y : Bool) → (x || y) ≡ false → (x ≡ false) × (y ≡ false)
-            or-false true y e = let z : _≡_ {A = ℕ} 0 1 = cc in absurd (omega arith)
+            or-false true y e = impossible cc
             or-false false y e = (refl, e)
 
             -- with every blob set aside, an empty log is anchored

@@ -20,7 +20,7 @@ use Rattle.rules.specs.Open.{capacity, walk, walkAll, examine, valid, scanned, 
 use Rattle.rules.specs.Calls.{count}
 use Rattle.rules.specs.Open as open-rules
 use Rattle.ledger.specs.Ledger.{Ledger}
-use Rattle.ledger.proofs.Blobs.{found-listed, find-change-same, find-change-other}
+use Rattle.ledger.proofs.Blobs.{impossible, found-listed, find-change-same, find-change-other}
 use Rattle.ledger.proofs.Invariant.{first, room, first-is, room-is, Lowest, first-room, first-next, first-low, Fits, Standing}
 use Rattle.ledger.proofs.Reach.{reachOf, full}
 use Rattle.ledger.proofs.Writes.{standing-truncate}
@@ -100,7 +100,7 @@ module _ (c : Config) (s top lo : ℕ) (low : Lowest c s lo) (zp : 0 < c .z) whe
   walk-reach [] [] b k size n h i fits t = record { to = size; gap = false; is = refl; up = omega arith; meets = refl }
   walk-reach [] (y ∷ ys) b k size n h i fits t = elim t [ ]
   walk-reach (x ∷ xs) [] b k size n h i fits t = elim t [ ]
-  walk-reach (x ∷ xs) (y ∷ ys) b zero size n h i fits t = let z : _≡_ {A = ℕ} 0 1 = cc in absurd (omega arith)
+  walk-reach (x ∷ xs) (y ∷ ys) b zero size n h i fits t = impossible cc
   walk-reach (x ∷ xs) (y ∷ ys) b (suc k) size n h i fits t =
       let head : x .0 ≡ b = cc in
       let rest : numbers xs ≡ count (b + 1) k = cc in
@@ -163,7 +163,7 @@ module _ (c : Config) (s top lo : ℕ) (low : Lowest c s lo) (zp : 0 < c .z) whe
   walk-all [] [] k n fits t = (s, false, refl, refl)
   walk-all [] (y ∷ ys) k n fits t = elim t [ ]
   walk-all (x ∷ xs) [] k n fits t = elim t [ ]
-  walk-all (x ∷ xs) (y ∷ ys) zero n fits t = let z : _≡_ {A = ℕ} 0 1 = cc in absurd (omega arith)
+  walk-all (x ∷ xs) (y ∷ ys) zero n fits t = impossible cc
   walk-all (x ∷ xs) (y ∷ ys) (suc k) n fits t =
       let head : x .0 ≡ lo = cc in
       let r = walk-reach (x ∷ xs) (y ∷ ys) lo (suc k) s n (omega arith) (sym (first-low c s lo low)) fits t in
@@ -235,7 +235,7 @@ module _ (c : Config) (s : ℕ) (zp : 0 < c .z) (pp : 0 < c .page) where
     where
       met : (ceiling : Option ℕ) → (isSome ceiling && (eqb (scanned c s ceiling x) (limitOf c s ceiling x) && leb (needed c s ceiling (x .0)) (scanned c s ceiling x / c .z))) ≡ true
           → (length (x .1 .bytes) / c .z ≡ x .1 .sound / c .z) ⊎ (orMax ceiling ≤ first c s (x .0) + x .1 .sound / c .z)
-      met None a = let z : _≡_ {A = ℕ} 0 1 = cc in absurd (omega arith)
+      met None a = impossible cc
       met (Some k) a =
           let b = leb-true (needed c s (Some k) (x .0)) (scanned c s (Some k) x / c .z) (and-parts _ _ a .1) in
           let m = div-mono (scanned c s (Some k) x) (x .1 .sound) (c .z) zp (omega arith) in
