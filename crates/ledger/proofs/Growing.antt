@@ -107,9 +107,9 @@ module _ {R : Type 0} (c : Config) (enc : R → List ℕ) (zp : 0 < c .z) (ez : 
       last = answer (record { start = l .start; end = end; owed = calls-of.owedAfter c k end }, end - 1)
 
 -- a running log reads all of its span
-pub run-good : {R : Type 0} (c : Config) (enc : R → List ℕ) (decodes : List ℕ → Option R) (ez : (r : R) → length (enc r) ≡ c .z) (back : (r : R) → decodes (enc r) ≡ Some r) (l : Ledger R) (r : Running) (v : View)
-    → v .up ≡ true → Run-as c enc l r (v .disk) → (p : ℕ) → l .start ≤ p → p < l .end → Good c enc decodes ez back (l .start) v (l .handed) p
-run-good {R} c enc decodes ez back l r v up k p h g = good c enc decodes ez back l v (l .end) p up (t .stand .rows) covers (let i = k .inside in omega arith) h g
+pub run-good : {R : Type 0} (c : Config) (enc : R → List ℕ) (l : Ledger R) (r : Running) (v : View)
+    → v .up ≡ true → Run-as c enc l r (v .disk) → (p : ℕ) → l .start ≤ p → p < l .end → Good c enc (l .start) v (l .handed) p
+run-good {R} c enc l r v up k p h g = good c enc l v (l .end) p up (t .stand .rows) covers (let i = k .inside in omega arith) h g
   where
     hi : ℕ
     hi = k .lo + k .more

@@ -15,7 +15,7 @@ use Rattle.rules.specs.Rules.{Config, Plan, Fault, answer, refuse, ask, call, c
 use Rattle.rules.specs.Open.{Opened}
 use Rattle.rules.specs.Calls.{truncating, truncated, truncate-rule, keysFirst, anchor, goes, lastBlob, count}
 use Rattle.ledger.specs.Ledger.{Ledger, Event, Called}
-use Rattle.ledger.specs.Runs.{Log, fresh, over, opened, trimmed, staged, running, leaving, ruleOf, Consecutive, Kind, Happened, InLine, InLineFor}
+use Rattle.ledger.specs.Runs.{Log, fresh, over, opened, trimmed, staged, running, leaving, ruleOf, Consecutive, Sized, Happened, InLine, InLineFor}
 use Rattle.ledger.specs.Ledger as ledger
 use Rattle.ledger.proofs.Blobs.{impossible, never}
 use Rattle.ledger.proofs.Invariant.{Safe}
@@ -152,11 +152,11 @@ module _ {R : Type 0} (c : Config) (writes : R → List ℕ) (decodes : List ℕ
   given p (staged t) l d m s e = impossible cc
   given p (running r) l d m s e = impossible cc
 
-  in-line : badConfig c ≡ false → Kind c writes decodes → InLine c writes decodes
-  in-line good kind = record {
+  in-line : badConfig c ≡ false → Sized c writes decodes → InLine c writes decodes
+  in-line good sized = record {
     unstaged = unstaged;
     truncated = λ es m e s l w h.
-        let b = holds c writes decodes (so .n) (so .z) (so .page) kind es (h .0) (h .1) (h .4) in
+        let b = holds c writes decodes (so .n) (so .z) (so .page) sized es (h .0) (h .1) (h .4) in
         let g = given (h .2) (h .0) (b .ledger) (h .1 .disk) m (b .state) (h .5) in
         unstaged (Called (ledger.Truncate m) e s ∷ es) l w h (follows-free (h .2) (h .1) w (h .3) (g .0) (g .1) (h .6));
   }
@@ -166,8 +166,8 @@ module _ {R : Type 0} (c : Config) (writes : R → List ℕ) (decodes : List ℕ
 
       unstaged : (es : List (Event R)) (l : Log) (w : View) → Happened c writes decodes es l w → w .disk .saved .target ≡ None → Consecutive (numbers (w .disk .blobs))
       unstaged es l w h free =
-          let b = holds c writes decodes (so .n) (so .z) (so .page) kind es l w h in
+          let b = holds c writes decodes (so .n) (so .z) (so .page) sized es l w h in
           safe-consecutive c writes (w .disk) (b .ledger) (state-safe c writes l (b .ledger) (w .disk) (b .state)) free
 
 pub in-line-stands : {R : Type 0} → InLineFor R
-in-line-stands c writes decodes good kind = in-line c writes decodes good kind
+in-line-stands c writes decodes good sized = in-line c writes decodes good sized

@@ -22,8 +22,8 @@ use Rattle.store.specs.Disk.{Blob, Blobs, View, find}
 use Rattle.rules.specs.Rules.{Config, firstIn, Fault, answered}
 use Rattle.rules.specs.Reads.{when, falling, outside, lacking, bytesOf, Copy, copied, Reading, decoded, reading, unless, ended}
 use Rattle.ledger.specs.Ledger.{Ledger, Ask, One, Many, Reads, denial}
-use Rattle.ledger.specs.Runs.{readBy, told}
-use Rattle.ledger.proofs.Blobs.{impossible, listed-find, found-listed}
+use Rattle.ledger.specs.Runs.{ReadBack, readBy, told}
+use Rattle.ledger.proofs.Blobs.{looked, impossible, listed-find, found-listed}
 use Rattle.ledger.proofs.Invariant.{first, room, first-is, first-room, first-apart, Rows, Held}
 
 -- which positions are inside
@@ -48,7 +48,7 @@ falling-none i [] o h = h
 falling-none i (p ∷ []) o h = h
 falling-none i (p ∷ (q ∷ qs)) o h = falling-none (i + 1) (q ∷ qs) o (when-none (leb q p) _ _ h .1)
 
-module _ {R : Type 0} (c : Config) (enc : R → List ℕ) (decodes : List ℕ → Option R) (ez : (r : R) → length (enc r) ≡ c .z) (back : (r : R) → decodes (enc r) ≡ Some r) where
+module _ {R : Type 0} (c : Config) (enc : R → List ℕ) where
   -- the bytes of a position are those of the record that was handed in
   pub record Good (s : ℕ) (v : View) (handed : ℕ → Option R) (p : ℕ) : Type 0 where
     pub given : R
@@ -122,35 +122,42 @@ module _ {R : Type 0} (c : Config) (enc : R → List ℕ) (decodes : List ℕ �
           cov j y (room c (l .start) j) f (omega arith) (omega (arith, at)))
           all
 
+-- every record handed in is read back
+abbrev pub Backs : {R : Type 0} → (R → List ℕ) → (List ℕ → Option R) → (ℕ → Option R) → Type 0
+Backs {R} enc decodes handed = (p : ℕ) (r : R) → handed p ≡ Some r → decodes (enc r) ≡ Some r
+
+module _ {R : Type 0} (c : Config) (enc : R → List ℕ) (decodes : List ℕ → Option R) (ez : (r : R) → length (enc r) ≡ c .z) where
   pub record Copied-all (s : ℕ) (v : View) (handed : ℕ → Option R) (ps : List ℕ) : Type 0 where
     pub records : List R
     pub bytes : copied c s v ps ≡ record { bytes = joined enc records; stop = None }
     pub are : map Some records ≡ map handed ps
     pub as-many : length records ≡ length ps
+    pub backs : ReadBack c enc decodes records
 
-  pub copied-all : (s e : ℕ) (v : View) (handed : ℕ → Option R) → ((p : ℕ) → s ≤ p → p < e → Good s v handed p) → (ps : List ℕ) → Inside-all s e ps → Copied-all s v handed ps
-  copied-all s e v handed each [] i = record { records = []; bytes = refl; are = refl; as-many = refl }
-  copied-all s e v handed each (p ∷ ps) i =
-      let r = copied-all s e v handed each ps (i .2) in
+  pub copied-all : (s e : ℕ) (v : View) (handed : ℕ → Option R) → Backs enc decodes handed → ((p : ℕ) → s ≤ p → p < e → Good c enc s v handed p) → (ps : List ℕ) → Inside-all s e ps → Copied-all s v handed ps
+  copied-all s e v handed back each [] i = record { records = []; bytes = refl; are = refl; as-many = refl; backs = tt }
+  copied-all s e v handed back each (p ∷ ps) i =
+      let r = copied-all s e v handed back each ps (i .2) in
       let g = each p (i .0) (i .1) in
       record {
         records = g .given ∷ r .records;
         bytes = ap (λ (o : Result (List ℕ) Cause). Rattle.rules.specs.Reads.more c p o (copied c s v ps)) (g .reads) ∙ ap (λ (o : Copy). Rattle.rules.specs.Reads.more c p (Ok (enc (g .given))) o) (r .bytes);
         are = let a = g .was in let b = r .are in cc;
         as-many = let a = r .as-many in omega arith;
+        backs = (back p (g .given) (g .was), r .backs);
       }
 
-  pub decoded-all : (all : List ℕ) (rs : List R) (ps : List ℕ) → length rs ≡ length ps → decoded decodes c all (joined enc rs) ps ≡ record { bytes = all; records = rs; outcome = answered tt }
-  decoded-all all [] [] e = refl
-  decoded-all all [] (p ∷ ps) e = absurd (omega arith)
-  decoded-all all (r ∷ rs) [] e = absurd (omega arith)
-  decoded-all all (r ∷ rs) (p ∷ ps) e =
-      let ih = decoded-all all rs ps (omega arith) in
+  pub decoded-all : (all : List ℕ) (rs : List R) (ps : List ℕ) → length rs ≡ length ps → ReadBack c enc decodes rs → decoded decodes c all (joined enc rs) ps ≡ record { bytes = all; records = rs; outcome = answered tt }
+  decoded-all all [] [] e k = refl
+  decoded-all all [] (p ∷ ps) e k = absurd (omega arith)
+  decoded-all all (r ∷ rs) [] e k = absurd (omega arith)
+  decoded-all all (r ∷ rs) (p ∷ ps) e k =
+      let ih = decoded-all all rs ps (omega arith) (k .1) in
       let z = ez r in
       let a : take (c .z) (enc r ++ joined enc rs) ≡ enc r = take-append-le (c .z) (enc r) (joined enc rs) (omega arith) ∙ take-all (c .z) (enc r) (omega arith) in
       let b : drop (c .z) (enc r ++ joined enc rs) ≡ joined enc rs = ap (λ (j : ℕ). drop j (enc r ++ joined enc rs)) (sym z) ∙ drop-past (enc r) (joined enc rs) in
       ap (λ (u : List ℕ). Rattle.rules.specs.Reads.onto decodes all p (decodes u) (decoded decodes c all (drop (c .z) (enc r ++ joined enc rs)) ps)) a
-      ∙ (ap (λ (o : Option R). Rattle.rules.specs.Reads.onto decodes all p o (decoded decodes c all (drop (c .z) (enc r ++ joined enc rs)) ps)) (back r)
+      ∙ (ap (λ (o : Option R). Rattle.rules.specs.Reads.onto decodes all p o (decoded decodes c all (drop (c .z) (enc r ++ joined enc rs)) ps)) (k .0)
       ∙ (ap (λ (u : List ℕ). Rattle.rules.specs.Reads.onto decodes all p (Some r) (decoded decodes c all u ps)) b
       ∙ ap (λ (o : Reading R). Rattle.rules.specs.Reads.onto decodes all p (Some r) o) ih))
     where
@@ -159,32 +166,28 @@ module _ {R : Type 0} (c : Config) (enc : R → List ℕ) (decodes : List ℕ �
       drop-past (x ∷ xs) ys = drop-past xs ys
 
   -- a list of positions, none of them outside, gives their records
-  pub reading-all : (s e : ℕ) (v : View) (handed : ℕ → Option R) → ((p : ℕ) → s ≤ p → p < e → Good s v handed p) → (ps : List ℕ) → Inside-all s e ps
+  pub reading-all : (s e : ℕ) (v : View) (handed : ℕ → Option R) → Backs enc decodes handed → ((p : ℕ) → s ≤ p → p < e → Good c enc s v handed p) → (ps : List ℕ) → Inside-all s e ps
       → (rs : List R) × (reading decodes c s v ps ≡ record { bytes = joined enc rs; records = rs; outcome = answered tt }) × (map Some rs ≡ map handed ps)
-  reading-all s e v handed each ps i =
-      let k = copied-all s e v handed each ps i in (
+  reading-all s e v handed back each ps i =
+      let k = copied-all s e v handed back each ps i in (
         k .records,
-        ap (λ (o : Copy). ended decodes c ps (o .bytes) (o .stop)) (k .bytes) ∙ decoded-all (joined enc (k .records)) (k .records) ps (k .as-many),
+        ap (λ (o : Copy). ended decodes c ps (o .bytes) (o .stop)) (k .bytes) ∙ decoded-all (joined enc (k .records)) (k .records) ps (k .as-many) (k .backs),
         k .are,
       )
 
-  looked : (o : Option Fault) → (o ≡ None) ⊎ ((f : Fault) × (o ≡ Some f))
-  looked None = inl refl
-  looked (Some f) = inr (f, refl)
-
   -- the answer of a read is as the ledger says
-  answers : (l : Ledger R) (v : View) (q : Ask) (ps : List ℕ) → Rattle.ledger.specs.Ledger.positions q ≡ ps → ((p : ℕ) → l .start ≤ p → p < l .end → Good (l .start) v (l .handed) p)
+  answers : (l : Ledger R) (v : View) (q : Ask) (ps : List ℕ) → Rattle.ledger.specs.Ledger.positions q ≡ ps → Backs enc decodes (l .handed) → ((p : ℕ) → l .start ≤ p → p < l .end → Good c enc (l .start) v (l .handed) p)
       → (denial c l q ≡ None → Inside-all (l .start) (l .end) ps) → Reads c l v q (told c enc decodes (unless decodes (denial c l q) (reading decodes c (l .start) v ps)))
-  answers l v q ps is each inside = go (looked (denial c l q))
+  answers l v q ps is back each inside = go (looked (denial c l q))
     where
       go : (denial c l q ≡ None) ⊎ ((f : Fault) × (denial c l q ≡ Some f)) → Reads c l v q (told c enc decodes (unless decodes (denial c l q) (reading decodes c (l .start) v ps)))
       go (inl n) =
-          let r = reading-all (l .start) (l .end) v (l .handed) each ps (inside n) in
+          let r = reading-all (l .start) (l .end) v (l .handed) back each ps (inside n) in
           subst (λ (o : Option Fault). Reads c l v q (told c enc decodes (unless decodes o (reading decodes c (l .start) v ps)))) (sym n)
           (subst (λ (o : Reading R). Reads c l v q (told c enc decodes o)) (sym (r .1)) (n, r .2 ∙ ap (λ (u : List ℕ). map (l .handed) u) (sym is)))
       go (inr f) = subst (λ (o : Option Fault). Reads c l v q (told c enc decodes (unless decodes o (reading decodes c (l .start) v ps)))) (sym (f .1)) (f .1)
 
-  pub reads-agree : (l : Ledger R) (v : View) → ((p : ℕ) → l .start ≤ p → p < l .end → Good (l .start) v (l .handed) p) → (q : Ask) → Reads c l v q (readBy c enc decodes (l .start, l .end) v q)
-  reads-agree l v each (One p) = answers l v (One p) (p ∷ []) refl each (λ n. outside-none (l .start) (l .end) (p ∷ []) None n .0)
-  reads-agree l v each (Many ps bytes recs) =
-      answers l v (Many ps bytes recs) ps refl each (λ n. outside-none (l .start) (l .end) ps (lacking bytes (length ps * c .z) (lacking recs (length ps) None)) (falling-none 0 ps _ n) .0)
+  pub reads-agree : (l : Ledger R) (v : View) → Backs enc decodes (l .handed) → ((p : ℕ) → l .start ≤ p → p < l .end → Good c enc (l .start) v (l .handed) p) → (q : Ask) → Reads c l v q (readBy c enc decodes (l .start, l .end) v q)
+  reads-agree l v back each (One p) = answers l v (One p) (p ∷ []) refl back each (λ n. outside-none (l .start) (l .end) (p ∷ []) None n .0)
+  reads-agree l v back each (Many ps bytes recs) =
+      answers l v (Many ps bytes recs) ps refl back each (λ n. outside-none (l .start) (l .end) ps (lacking bytes (length ps * c .z) (lacking recs (length ps) None)) (falling-none 0 ps _ n) .0)

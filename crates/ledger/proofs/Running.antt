@@ -3,12 +3,10 @@ use Prim.Native.Nat.{ℕ, suc, _+_, _-_, _*_, _/_, _≤_, _<_, min}
 use mathlib.Core.Path.{_≡_, refl, sym, ap, subst}
 use mathlib.Core.Bool.{Bool, true, false}
 use mathlib.Core.List.{List, _++_, map}
-use lib.ListN.{length}
 use lib.Dec.{leb, ltb}
 use native.Mathlib.Omega.{arith}
 use native.Mathlib.Nat.{mul-le-mul-right, div-mul-le-self}
-use Rattle.std.specs.declared.option.Option.{Option}
-use Rattle.std.specs.declared.option.Option.the-variants.{None, Some}
+use Rattle.std.specs.declared.option.Option.the-variants.{None}
 use Rattle.std.proofs.shelf.Tests.{cond-true, cond-false, cond-both, lt-ltb, le-ltb, leb-true, leb-false}
 use Rattle.std.proofs.shelf.Bits.{div-below}
 use Rattle.store.specs.Disk.{Disk, View, Op, Remove}
@@ -102,8 +100,8 @@ module _ {R : Type 0} (c : Config) (enc : R → List ℕ) (l : Ledger R) (r : Ru
       ops = committing c k ++ map Remove (count (blobOf c (l .start)) (b - blobOf c (l .start)))
 
 -- an opened or trimmed log reads all of its span
-pub cut-good : {R : Type 0} (c : Config) (enc : R → List ℕ) (decodes : List ℕ → Option R) (ez : (r : R) → length (enc r) ≡ c .z) (back : (r : R) → decodes (enc r) ≡ Some r) (l : Ledger R) (o : Opened) (v : View)
-    → v .up ≡ true → Cuttable c enc l o (v .disk) → (p : ℕ) → l .start ≤ p → p < o .end → Good c enc decodes ez back (l .start) v (l .handed) p
-cut-good c enc decodes ez back l o v up k p h g =
-    let q = good c enc decodes ez back (moved l (l .start) (l .end) (k .sure) (l .far)) v (o .end) p up (k .stand .rows) (k .covers) (k .top) h g in
+pub cut-good : {R : Type 0} (c : Config) (enc : R → List ℕ) (l : Ledger R) (o : Opened) (v : View)
+    → v .up ≡ true → Cuttable c enc l o (v .disk) → (p : ℕ) → l .start ≤ p → p < o .end → Good c enc (l .start) v (l .handed) p
+cut-good c enc l o v up k p h g =
+    let q = good c enc (moved l (l .start) (l .end) (k .sure) (l .far)) v (o .end) p up (k .stand .rows) (k .covers) (k .top) h g in
     record { given = q .given; was = q .was; reads = q .reads }

@@ -20,7 +20,7 @@ use Rattle.ledger.proofs.Weakening.{Rest, rest-safe}
 use Rattle.ledger.proofs.Cuts.{Cuttable}
 use Rattle.ledger.proofs.Recovers.{Trim-as, Run-as, trim-cuttable}
 use Rattle.ledger.proofs.Empties.{Bare, Blank-as, blank-bare}
-use Rattle.ledger.proofs.Readings.{Good, reads-agree}
+use Rattle.ledger.proofs.Readings.{Good, Backs, reads-agree}
 use Rattle.ledger.proofs.Running.{cut-good}
 use Rattle.ledger.proofs.Growing.{run-good}
 
@@ -110,17 +110,17 @@ module _ {R : Type 0} (c : Config) (enc : R → List ℕ) where
 
   -- reads -----------------------------------------------------------------------------------------
 
-  module _ (decodes : List ℕ → Option R) (ez : (r : R) → length (enc r) ≡ c .z) (back : (r : R) → decodes (enc r) ≡ Some r) (l : Ledger R) (v : View) where
-    spans-good : (o : Opened) → v .up ≡ true → Spans l o (v .disk) → (p : ℕ) → l .start ≤ p → p < l .end → Good c enc decodes ez back (l .start) v (l .handed) p
-    spans-good o up (a, e, inl k) p h g = cut-good c enc decodes ez back l o v up k p h (omega arith)
+  module _ (decodes : List ℕ → Option R) (ez : (r : R) → length (enc r) ≡ c .z) (l : Ledger R) (v : View) (back : Backs enc decodes (l .handed)) where
+    spans-good : (o : Opened) → v .up ≡ true → Spans l o (v .disk) → (p : ℕ) → l .start ≤ p → p < l .end → Good c enc (l .start) v (l .handed) p
+    spans-good o up (a, e, inl k) p h g = cut-good c enc l o v up k p h (omega arith)
     spans-good o up (a, e, inr b) p h g = absurd (let z = b .end in omega arith)
 
-    agrees : (s : ℕ × ℕ) (a b : ℕ) (q : Ask) → Some (a, b) ≡ Some s → a ≡ l .start → b ≡ l .end → ((p : ℕ) → l .start ≤ p → p < l .end → Good c enc decodes ez back (l .start) v (l .handed) p)
+    agrees : (s : ℕ × ℕ) (a b : ℕ) (q : Ask) → Some (a, b) ≡ Some s → a ≡ l .start → b ≡ l .end → ((p : ℕ) → l .start ≤ p → p < l .end → Good c enc (l .start) v (l .handed) p)
         → Reads c l v q (readBy c enc decodes s v q)
     agrees s a b q e x y each =
         let i : (a, b) ≡ s = cc in
         let j : (l .start, l .end) ≡ s = (λ k. (sym x k, sym y k)) ∙ i in
-        rw (← j) (reads-agree c enc decodes ez back l v each q)
+        rw (← j) (reads-agree c enc decodes ez l v back each q)
 
     -- every read of a log gives the records handed in
     pub state-reads : (k : Log) (s : ℕ × ℕ) (q : Ask) → Up k v → State k l (v .disk) → spanOf k ≡ Some s → (hands.isLog (handOf k) ≡ true) × Reads c l v q (readBy c enc decodes s v q)
@@ -129,4 +129,4 @@ module _ {R : Type 0} (c : Config) (enc : R → List ℕ) where
     state-reads (opened o) s q up w e = (refl, agrees s (o .start) (o .end) q e (w .0) (w .1) (spans-good o up w))
     state-reads (trimmed o) s q up w e = let t = trimmed-spans l o (v .disk) w in (refl, agrees s (o .start) (o .end) q e (t .0) (t .1) (spans-good o up t))
     state-reads (staged t) s q up w e = impossible cc
-    state-reads (running r) s q up w e = (refl, agrees s (r .start) (r .end) q e (w .start) (w .end) (run-good c enc decodes ez back l r v up w))
+    state-reads (running r) s q up w e = (refl, agrees s (r .start) (r .end) q e (w .start) (w .end) (run-good c enc l r v up w))

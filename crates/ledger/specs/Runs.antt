@@ -79,6 +79,18 @@ module _ {R : Type 0} where
   answerOf rs (refused f) = Denied f
   answerOf rs (stopped s y) = Failed y
 
+  abbrev pub handedIn : Call R → List R
+  handedIn (Open o) = []
+  handedIn (Append rs lent) = rs
+  handedIn (Truncate m) = []
+  handedIn (Publish m) = []
+  handedIn (Prune p) = []
+  handedIn (Clear t) = []
+  handedIn Commit = []
+  handedIn Sync = []
+  handedIn Complete = []
+  handedIn Leave = []
+
 module _ {R : Type 0} (c : Config) (writes : R → List ℕ) (decodes : List ℕ → Option R) where
   abbrev pub packed : List R → ℕ → Plan Log → Plan Log
   packed rs lent p = let needs : ℕ = min (length rs * c .z) MAX in refuseIf (ltb lent needs) (NoSpace needs) p
@@ -113,22 +125,32 @@ module _ {R : Type 0} (c : Config) (writes : R → List ℕ) (decodes : List ℕ
   readBy s v (One p) = told (read-rule decodes c (s .0) (s .1) v p)
   readBy s v (Many ps bytes recs) = told (read-many-rule decodes c (s .0) (s .1) v ps bytes recs)
 
+  -- records that are read as they were written
+  abbrev pub ReadBack : List R → Type 0
+  ReadBack [] = Unit {0}
+  ReadBack (r ∷ rs) = (decodes (writes r) ≡ Some r) × ReadBack rs
+
+  -- so are those that a call hands in, unless it is refused
+  abbrev pub HandsIn : Call R → End → Type 0
+  HandsIn x Done = ReadBack (handedIn x)
+  HandsIn x (Refused f) = Unit {0}
+  HandsIn x (Stopped y) = ReadBack (handedIn x)
+
   -- events, newest first, with the log in hand and the store that they leave, whose view always has the laws of a store
   abbrev pub Happened : List (Event R) → Log → View → Type 0
   Happened [] l w = (l ≡ fresh) × New w × Lawful w
   Happened (Restart ∷ es) l w = (k : Log) × (v : View) × Happened es k v × Restarted v w × Lawful w × (l ≡ fresh)
   Happened (Called x e s ∷ es) l w =
       (k : Log) × (v : View) × (p : Plan Log) × (r : Outcome Log) × Happened es k v × (ruleOf k (v .disk) x ≡ Some p) × Follows p v r w × Lawful w
-      × (e ≡ endOf r) × (l ≡ logAfter k r) × (s ≡ spanOf l)
+      × HandsIn x e × (e ≡ endOf r) × (l ≡ logAfter k r) × (s ≡ spanOf l)
   Happened (Read q a ∷ es) l w = (s : ℕ × ℕ) × Happened es l w × (spanOf l ≡ Some s) × (a ≡ readBy s w q)
 
-  -- a record has its Z bytes, and they are read as that record
-  pub record Kind : Type 0 where
-    pub sized : (r : R) → length (writes r) ≡ c .z
-    pub read-back : (r : R) → decodes (writes r) ≡ Some r
+  -- each record has its Z bytes
+  abbrev pub Sized : Type 0
+  Sized = (r : R) → length (writes r) ≡ c .z
 
   abbrev pub Law : Type 0
-  Law = badConfig c ≡ false → Kind → (es : List (Event R)) (l : Log) (w : View) → Happened es l w → (m : Ledger R) × Agrees c es w m
+  Law = badConfig c ≡ false → Sized → (es : List (Event R)) (l : Log) (w : View) → Happened es l w → (m : Ledger R) × Agrees c es w m
 
   -- whatever was done, refused or stopped, the blobs are numbered one after the other, unless a clear is staged
   pub record InLine : Type 0 where
@@ -141,4 +163,4 @@ abbrev pub LawFor : Type 0 → Type 0
 LawFor R = (c : Config) (writes : R → List ℕ) (decodes : List ℕ → Option R) → Law c writes decodes
 
 abbrev pub InLineFor : Type 0 → Type 0
-InLineFor R = (c : Config) (writes : R → List ℕ) (decodes : List ℕ → Option R) → badConfig c ≡ false → Kind c writes decodes → InLine c writes decodes
+InLineFor R = (c : Config) (writes : R → List ℕ) (decodes : List ℕ → Option R) → badConfig c ≡ false → Sized c writes decodes → InLine c writes decodes
