@@ -47,6 +47,28 @@ module _ {R : Type 0} (c : Config) (enc : R → List ℕ) where
   abbrev pub SafeFor : Ledger R → Disk → Type 0
   SafeFor l d = Safe c enc d l
 
+  -- a blob that is not below the highest is it
+  pub tied-top : {lo more : ℕ} (l : Ledger R) (d : Disk) (o : Option ℕ) (r : Tied c enc lo more d l o) (b : ℕ) (x : Blob) → find (d .blobs) b ≡ Some x → lo + more ≤ b → (lo + more ≡ b) × (r .tail ≡ x)
+  tied-top {lo} {more} l d o r b x f i =
+      let a = found-listed (d .blobs) lo (suc more) b x (r .stand .rows .listed) f in
+      let e : lo + more ≡ b = omega arith in
+      (e, cc (r .found, f))
+
+  -- all that is below the end is sound
+  pub tied-covers : {lo more : ℕ} (l : Ledger R) (d : Disk) (o : Option ℕ) → Tied c enc lo more d l o → (b : ℕ) (x : Blob) (m : ℕ) → find (d .blobs) b ≡ Some x
+      → m ≤ room c (l .start) b → first c (l .start) b + m ≤ l .end → m * c .z ≤ x .sound
+  tied-covers {lo} {more} l d o r b x m f h g = elim (cases-lt b (lo + more)) [
+    | inl i ↦ let a = r .full b x f i in let u = mul-le-mul-right (c .z) h in omega arith
+    | inr i ↦
+        let q = tied-top l d o r b x f i in
+        let en = r .ends in let sn = r .sound in let bn = r .bytes in
+        let fk : first c (l .start) (lo + more) ≡ first c (l .start) b = ap (λ (j : ℕ). first c (l .start) j) (q .0) in
+        let so : r .tail .sound ≡ x .sound = ap (λ (y : Blob). y .sound) (q .1) in
+        let mh : m ≤ r .have = omega arith in
+        let mz = mul-le-mul-right (c .z) mh in
+        omega arith
+  ]
+
   -- commit ------------------------------------------------------------------------------------
 
   -- any sync: the log runs on

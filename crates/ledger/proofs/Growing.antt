@@ -1,5 +1,5 @@
 -- The rule of an append to the running log.
-use Prim.Native.Nat.{ℕ, suc, _+_, _-_, _*_, _/_, _%_, _≤_, _<_}
+use Prim.Native.Nat.{ℕ, _+_, _-_, _*_, _/_, _%_, _≤_, _<_}
 use mathlib.Core.Path.{_≡_, refl, sym, ap, _∙_, subst}
 use mathlib.Core.Logic.{_⊎_, inl, inr}
 use mathlib.Core.Bool.{true, false, cond}
@@ -7,21 +7,19 @@ use mathlib.Core.List.{List, [], _∷_, map}
 use lib.ListN.{length, length-map}
 use lib.Dec.{eqb, ltb}
 use native.Mathlib.Omega.{arith}
-use native.Mathlib.Nat.{mul-le-mul-right, lt-div-mul-add, div-mul-le-self, mul-add-mod-self-right, mod-self, div-eq-of-lt-le}
+use native.Mathlib.Nat.{lt-div-mul-add, div-mul-le-self, mul-add-mod-self-right, mod-self, div-eq-of-lt-le}
 use Rattle.std.specs.declared.option.Option.{Option}
 use Rattle.std.specs.declared.option.Option.the-variants.{Some}
-use Rattle.std.proofs.shelf.Tests.{cases-lt, eqb-true, cases-bool, cond-true, cond-false, cond-both, ne-eqb, lt-ltb, le-ltb, ltb-false, eqb-false}
+use Rattle.std.proofs.shelf.Tests.{eqb-true, cases-bool, cond-true, cond-false, cond-both, ne-eqb, lt-ltb, le-ltb, ltb-false, eqb-false}
 use Rattle.std.proofs.shelf.Bits.{le-div}
-use Rattle.store.specs.Disk.{Blob, Disk, View, find}
+use Rattle.store.specs.Disk.{Disk, View}
 use Rattle.rules.specs.Rules.{Config, aligned, MAX, Plan, answer, SizeOverflow, EmptyAppend}
-use Rattle.rules.specs.Calls.{Running, appending, same, from, append-rule}
+use Rattle.rules.specs.Calls.{Running, appending, from, append-rule}
 use Rattle.rules.specs.Calls as calls-of
 use Rattle.ledger.specs.Ledger.{Ledger, appended}
-use Rattle.ledger.proofs.Blobs.{found-listed}
-use Rattle.ledger.proofs.Invariant.{first, room}
 use Rattle.ledger.proofs.Chain.{chain-then}
 use Rattle.ledger.proofs.Appends.{aligned-next, owedAfter, After, append-chain}
-use Rattle.ledger.proofs.Commits.{Tied, SafeFor}
+use Rattle.ledger.proofs.Commits.{tied-covers, Tied, SafeFor}
 use Rattle.ledger.proofs.Plans.{Leads, leads-unless, leads-calls}
 use Rattle.ledger.proofs.Recovers.{Run-as}
 use Rattle.ledger.proofs.Readings.{Good, good}
@@ -109,26 +107,5 @@ module _ {R : Type 0} (c : Config) (enc : R → List ℕ) (zp : 0 < c .z) (ez : 
 -- a running log reads all of its span
 pub run-good : {R : Type 0} (c : Config) (enc : R → List ℕ) (l : Ledger R) (r : Running) (v : View)
     → v .up ≡ true → Run-as c enc l r (v .disk) → (p : ℕ) → l .start ≤ p → p < l .end → Good c enc (l .start) v (l .handed) p
-run-good {R} c enc l r v up k p h g = good c enc l v (l .end) p up (t .stand .rows) covers (let i = k .inside in omega arith) h g
-  where
-    hi : ℕ
-    hi = k .lo + k .more
-
-    t : Tied c enc (k .lo) (k .more) (v .disk) l (r .owed)
-    t = k .tied
-
-    covers : (b : ℕ) (x : Blob) (m : ℕ) → find (v .disk .blobs) b ≡ Some x → m ≤ room c (l .start) b → first c (l .start) b + m ≤ l .end → m * c .z ≤ x .sound
-    covers b x m f i j = elim (cases-lt b hi) [
-      | inl q ↦ let a = t .full b x f q in let u = mul-le-mul-right (c .z) i in omega arith
-      | inr q ↦
-          let a = found-listed (v .disk .blobs) (k .lo) (suc (k .more)) b x (t .stand .rows .listed) f in
-          let e : hi ≡ b = omega arith in
-          let y : find (v .disk .blobs) hi ≡ find (v .disk .blobs) b = ap (λ (n : ℕ). find (v .disk .blobs) n) e in
-          let same : t .tail ≡ x = cc (t .found, f, y) in
-          let en = t .ends in let sn = t .sound in let bn = t .bytes in
-          let fk : first c (l .start) hi ≡ first c (l .start) b = ap (λ (n : ℕ). first c (l .start) n) e in
-          let so : t .tail .sound ≡ x .sound = ap (λ (u : Blob). u .sound) same in
-          let mh : m ≤ t .have = omega arith in
-          let mz = mul-le-mul-right (c .z) mh in
-          omega arith
-    ]
+run-good c enc l r v up k p h g =
+    good c enc l v (l .end) p up (k .tied .stand .rows) (tied-covers c enc l (v .disk) (r .owed) (k .tied)) (let i = k .inside in omega arith) h g

@@ -1,5 +1,5 @@
 -- The rules of truncate and publish, from any log that is opened or trimmed and has blobs.
-use Prim.Native.Nat.{ℕ, suc, _+_, _*_, _≤_, _<_, min}
+use Prim.Native.Nat.{ℕ, _+_, _*_, _≤_, _<_, min}
 use mathlib.Core.Path.{_≡_, refl, sym, ap, _∙_, subst}
 use mathlib.Core.Logic.{_⊎_, inl, inr}
 use mathlib.Core.Bool.{Bool, true, false, cond, not, _&&_}
@@ -7,7 +7,7 @@ use mathlib.Core.List.{List, [], _∷_, _++_, map}
 use lib.ListN.{length}
 use lib.Dec.{ltb}
 use native.Mathlib.Omega.{arith}
-use native.Mathlib.Nat.{mul-le-mul-right, mul-le-mul-left}
+use native.Mathlib.Nat.{mul-le-mul-left}
 use Rattle.std.specs.declared.option.Option.the-variants.{None, Some}
 use Rattle.std.proofs.shelf.Tests.{cases-lt, le-ltb, not-from-true}
 use Rattle.store.specs.Disk.{Blob, Disk, find, numbers, Open, Sync, insert, doneAll}
@@ -15,12 +15,12 @@ use Rattle.rules.specs.Rules.{Config, blobOf, persist, MAX, Plan, answer, calls
 use Rattle.rules.specs.Calls.{Running, same, from, truncating, upOneByOne, truncate-rule, publish-rule, truncated}
 use Rattle.rules.specs.Open.{Opened, noEdge}
 use Rattle.ledger.specs.Ledger.{Ledger}
-use Rattle.ledger.proofs.Blobs.{impossible, found-listed}
-use Rattle.ledger.proofs.Invariant.{first, room, first-room, moved}
+use Rattle.ledger.proofs.Blobs.{impossible}
+use Rattle.ledger.proofs.Invariant.{room, first-room, moved}
 use Rattle.ledger.proofs.Chain.{Chain, chain-append, chain-then, chain-end}
 use Rattle.ledger.proofs.Truncates.{Cut-to, truncate-chain}
 use Rattle.ledger.proofs.Publishes.{Ran, ran-chain, raise-chain, in-line}
-use Rattle.ledger.proofs.Commits.{Tied, Inside, SafeFor}
+use Rattle.ledger.proofs.Commits.{tied-top, tied-covers, Tied, Inside, SafeFor}
 use Rattle.ledger.proofs.Plans.{Leads, leads-unless, leads-calls}
 use Rattle.ledger.proofs.Trimmeds.{Trim}
 use Rattle.ledger.proofs.Cuts.{Cuttable}
@@ -151,24 +151,14 @@ module _ {R : Type 0} (c : Config) (enc : R → List ℕ) (l : Ledger R) (o : Op
     start = t .start;
     mark = t .mark;
     far = let a = r .whole in let b = t .end in omega arith;
-    covers = λ b x m f h g. elim (cases-lt b hi) [
-      | inl i ↦ let a = r .full b x f i in let u = mul-le-mul-right (c .z) h in omega arith
-      | inr i ↦
-          let q = at-top b x f i in
-          let en = r .ends in let e2 = t .end in let sn = r .sound in let bn = r .bytes in
-          let fk : first c (l .start) hi ≡ first c (l .start) b = ap (λ (j : ℕ). first c (l .start) j) (q .0) in
-          let so : r .tail .sound ≡ x .sound = ap (λ (y : Blob). y .sound) (q .1) in
-          let mh : m ≤ r .have = omega arith in
-          let mz = mul-le-mul-right (c .z) mh in
-          omega arith
-    ];
+    covers = λ b x m f h g. tied-covers c enc l d None r b x m f h (let e = t .end in omega arith);
     sealed = λ b x f g. elim (cases-lt b hi) [
       | inl i ↦ elim (r .safe b x f i) [
         | inl u ↦ impossible cc
         | inr u ↦ u
       ]
       | inr i ↦
-          let q = at-top b x f i in
+          let q = tied-top c enc l d None r b x f i in
           let e2 = t .end in let en = r .ends in let sr = r .some-room in let sn = r .sound in let bn = r .bytes in
           let nn : hi * c .n ≡ b * c .n = ap (λ (j : ℕ). j * c .n) (q .0) in
           let a = first-room c (l .start) (t .trim .lo) (r .stand .rows .low) hi (omega arith) in
@@ -193,10 +183,3 @@ module _ {R : Type 0} (c : Config) (enc : R → List ℕ) (l : Ledger R) (o : Op
 
       np : 0 < c .n
       np = let x = r .stand .rows .low .from in let y = r .stand .rows .low .below in omega arith
-
-      at-top : (b : ℕ) (x : Blob) → find (d .blobs) b ≡ Some x → hi ≤ b → (hi ≡ b) × (r .tail ≡ x)
-      at-top b x f i =
-          let a = found-listed (d .blobs) (t .trim .lo) (suc (t .trim .more)) b x (r .stand .rows .listed) f in
-          let e : hi ≡ b = omega arith in
-          let j : find (d .blobs) hi ≡ find (d .blobs) b = ap (λ (n : ℕ). find (d .blobs) n) e in
-          (e, cc (r .found, f, j))

@@ -16,13 +16,13 @@ use Rattle.rules.specs.Rules.{Config, blobOf, aligned, persist, MAX}
 use Rattle.rules.specs.Calls.{same, has, from, upTo, openIf, count}
 use Rattle.ledger.specs.Ledger.{Ledger, appended}
 use Rattle.ledger.proofs.Blobs.{impossible, find-change, found-listed, find-insert-other, listed-find, insert-here}
-use Rattle.ledger.proofs.Invariant.{first, blob-first, blob-is, first-room, stands, moved}
+use Rattle.ledger.proofs.Invariant.{blob-first, blob-is, first-room, stands, moved}
 use Rattle.ledger.proofs.Writes.{standing-kept}
 use Rattle.ledger.proofs.Chain.{Chain, chain-then, plain}
 use Rattle.ledger.proofs.Publishes.{sync-rows}
 use Rattle.ledger.proofs.Appends.{ahead, run-counted, tied-append, tied-open}
 use Rattle.ledger.proofs.Prunes.{PruneStops, Pruned, remove-chain}
-use Rattle.ledger.proofs.Commits.{persist-chain, tied-persisted, tied-sync, Tied, tied-paid, SafeFor, Persisted}
+use Rattle.ledger.proofs.Commits.{tied-top, tied-covers, persist-chain, tied-persisted, tied-sync, Tied, tied-paid, SafeFor, Persisted}
 use Rattle.ledger.proofs.Rows.{has-in, has-above, upTo-row}
 
 abbrev pub TailSafe : ℕ → Disk → Type 0
@@ -54,16 +54,9 @@ module _ {R : Type 0} (c : Config) (enc : R → List ℕ) (zp : 0 < c .z) (ez : 
                 | inr t ↦ let u = mul-le-mul-right (c .z) h in omega arith
               ]
               | inr i ↦
-                  let at = found-listed (d .blobs) lo (suc more) k x (r .stand .rows .listed) e in
-                  let kt : lo + more ≡ k = omega arith in
-                  let fk : first c (l .start) (lo + more) ≡ first c (l .start) k = ap (λ (j : ℕ). first c (l .start) j) kt in
-                  let j : find (d .blobs) (lo + more) ≡ find (d .blobs) k = ap (λ (n : ℕ). find (d .blobs) n) kt in
-                  let s = ts x (j ∙ e) in
-                  let is : r .tail ≡ x = cc (r .found, e, j) in
-                  let so : r .tail .sound ≡ x .sound = ap (λ (y : Blob). y .sound) is in
-                  let en = r .ends in let sn = r .sound in let bn = r .bytes in
-                  let mh : m ≤ r .have = omega arith in
-                  let mz = mul-le-mul-right (c .z) mh in
+                  let q = tied-top c enc l d None r k x e i in
+                  let s = ts x (ap (λ (n : ℕ). find (d .blobs) n) (q .0) ∙ e) in
+                  let so = tied-covers c enc l d None r k x m e h g in
                   omega arith
             ]);
         whole = r .whole;

@@ -237,9 +237,8 @@ module _ (c : Config) (s : ℕ) (zp : 0 < c .z) (pp : 0 < c .page) where
           → (length (x .1 .bytes) / c .z ≡ x .1 .sound / c .z) ⊎ (orMax ceiling ≤ first c s (x .0) + x .1 .sound / c .z)
       met None a = impossible cc
       met (Some k) a =
-          let b = leb-true (needed c s (Some k) (x .0)) (scanned c s (Some k) x / c .z) (and-parts _ _ a .1) in
+          let b = leb-true (needed c s (Some k) (x .0)) (scanned c s (Some k) x / c .z) (and-parts (eqb (scanned c s (Some k) x) (limitOf c s (Some k) x)) (leb (needed c s (Some k) (x .0)) (scanned c s (Some k) x / c .z)) a .1) in
           let m = div-mono (scanned c s (Some k) x) (x .1 .sound) (c .z) zp (omega arith) in
-          let g = seen-same c s k x zp f in
           let w = div-at-most (length (x .1 .bytes)) (c .z) (room c s (x .0)) zp (f .length-room) in
           let l = div-mono (x .1 .sound) (length (x .1 .bytes)) (c .z) zp (f .sound-length) in
           elim (cases-lt (c .n) (k - firstIn c s (x .0))) [
