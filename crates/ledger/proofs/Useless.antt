@@ -1,5 +1,5 @@
 -- Useless histories are rejected, and a useful one is taken.
-use Prim.Native.Nat.{ℕ}
+use Prim.Native.Nat.{_≤_, zero, suc, _^_, ℕ}
 use mathlib.Core.Path.{_≡_, refl, sym, ap, subst, _∙_}
 use mathlib.Core.Logic.{inl, inr}
 use mathlib.Core.Bool.{Bool, true, false, cond, true≢false}
@@ -13,10 +13,13 @@ use Rattle.std.specs.declared.option.Option.the-variants.{None, Some}
 use Rattle.store.specs.declared.cause.Cause.{Cause}
 use Rattle.store.specs.declared.cause.Cause.the-variants.{Power, Missing, Range, Torn, NoRoom}
 use Rattle.store.specs.declared.keys.Key.the-variants.{Hint, Watermark}
-use Rattle.store.specs.Disk.{View, Blob, Op, DropKey, Put, SyncKeys, Made, Restarted, done, doneAll, find, Refuses, refusesUp, atBlob, causeIf}
-use Rattle.rules.specs.Rules.{Fault}
+use Rattle.store.specs.Disk.{Disk, View, Blob, Op, DropKey, Put, SyncKeys, Made, Restarted, done, doneAll, find, Refuses, refusesUp, atBlob, causeIf, Blobs, numbers, noKeys}
+use Rattle.store.specs.Laws.{Rising, Below, Whole, AllWhole, KeysFit, Lawful}
+use Rattle.rules.specs.Rules.{Fault, answered, stopped, Wrote}
+use Rattle.rules.specs.Open.{Opened, noEdge}
 use Rattle.ledger.specs.Ledger.{Ledger, Called, Read, Open, Append, Commit, Publish, Done, Refused, Stopped, One, Gave, Agrees, entry, refusal, first, bounds}
-use Rattle.ledger.specs.Useless.{four, begun, given, Useless, Taken, on, v0, v1, v2, v3, v4, l2}
+use Rattle.ledger.specs.Useless.{four, begun, given, Useless, Taken, on, v0, v1, v2, v3, v4, l2, writes, decodes, lived}
+use Rattle.ledger.specs.Runs.{fresh, over, opened, running, Happened}
 use Rattle.ledger.proofs.Blobs.{never}
 
 -- the ledger of what was begun is the first one
@@ -138,13 +141,13 @@ published = (
 )
 
 grown : Agrees {R = ℕ} four given v2 l2
-grown = (v1, first, published, refl, (refl, refl, (Op.Append 0 (1 ∷ (2 ∷ [])) ∷ [], inl (v2, (refl, refl, refl, refl, refl), (refl, refl)))), refl, omega arith)
+grown = (v1, first, published, refl, (refl, refl, (Op.Append 0 (writes 7) ∷ [], inl (v2, (refl, refl, refl, refl, refl), (refl, refl)))), refl, omega arith)
 
-cut-off : Agrees {R = ℕ} four (Called Commit (Stopped (Some Power)) None ∷ given) v3 l2
+cut-off : Agrees {R = ℕ} four (Called Commit (Stopped (Some Power)) None ∷ (Read (One 0) (Gave (7 ∷ [])) ∷ given)) v3 l2
 cut-off = (
   v2,
   l2,
-  grown,
+  (grown, refl, (refl, refl)),
   refl,
   (
     inl refl,
@@ -177,27 +180,176 @@ cut-off = (
   omega arith,
 )
 
-pub taken-stands : Taken
-taken-stands = record {
-  read-back = (grown, refl, (refl, refl));
-  lost = (
-    v4,
-    bounds l2 0 1 0 0,
-    (v3, l2, cut-off, restarted, (0, omega arith, omega arith, refl)),
-    refl,
-    (refl, refl, ([], (refl, refl))),
-    refl,
-    omega arith,
-  );
+restarted : Restarted v3 v4
+restarted = record {
+  up = refl;
+  most = refl;
+  middle = (0, record { bytes = []; sound = 0; safe = 0 }) ∷ [];
+  weakened = (refl, record { kept = omega arith; fewer = omega arith; safe-grows = omega arith; safe-within = omega arith; same = refl; sound-within = omega arith; shorter = omega arith }, tt);
+  blobs = refl;
+  saved = refl;
+  present = refl;
+}
+
+lived-agrees : Agrees {R = ℕ} four lived v4 (bounds l2 0 0 0 0)
+lived-agrees = (
+  v4,
+  bounds l2 0 1 0 0,
+  (v3, l2, cut-off, restarted, (0, omega arith, omega arith, refl)),
+  refl,
+  (refl, refl, ([], (refl, refl))),
+  refl,
+  omega arith,
+)
+
+-- by the rules ------------------------------------------------------------------------------------
+
+no-blobs : (d : Disk) (r : ℕ) (u : Bool) → d .blobs ≡ [] → KeysFit (d .present) → KeysFit (d .saved) → Lawful (on d r u)
+no-blobs d r u e p q = record {
+  rising = subst (λ (bs : Blobs). Rising (numbers bs)) (sym e) (λ j k a b. absurd (omega arith));
+  fits = subst (λ (bs : Blobs). Below (2 ^ 64) (numbers bs)) (sym e) (λ k a. absurd (omega arith));
+  whole = subst AllWhole (sym e) tt;
+  present = p;
+  saved = q;
+}
+
+one-blob : (x : Blob) (d : Disk) (r : ℕ) (u : Bool) → d .blobs ≡ (0, x) ∷ [] → Whole x → KeysFit (d .present) → KeysFit (d .saved) → Lawful (on d r u)
+one-blob x d r u e w p q = record {
+  rising = subst (λ (bs : Blobs). Rising (numbers bs)) (sym e) (λ j k a b. absurd (omega arith));
+  fits = subst (λ (bs : Blobs). Below (2 ^ 64) (numbers bs)) (sym e) below;
+  whole = subst AllWhole (sym e) (w, tt);
+  present = p;
+  saved = q;
 }
   where
-    restarted : Restarted v3 v4
-    restarted = record {
-      up = refl;
-      most = refl;
-      middle = (0, record { bytes = []; sound = 0; safe = 0 }) ∷ [];
-      weakened = (refl, record { kept = omega arith; fewer = omega arith; safe-grows = omega arith; safe-within = omega arith; same = refl; sound-within = omega arith; shorter = omega arith }, tt);
-      blobs = refl;
-      saved = refl;
-      present = refl;
-    }
+    below : Below (2 ^ 64) (0 ∷ [])
+    below zero a = omega arith
+    below (suc k) a = absurd (omega arith)
+
+fit : KeysFit noKeys
+fit = record { hint = tt; target = tt; watermark = tt }
+
+fit-zero : KeysFit (v1 .disk .saved)
+fit-zero = record { hint = tt; target = tt; watermark = omega arith }
+
+lawful-one : (bs : List ℕ) (sound safe r : ℕ) (u : Bool) → safe ≤ sound → sound ≤ length bs → length bs ≤ 2
+    → Lawful (on (record { blobs = (0, record { bytes = bs; sound = sound; safe = safe }) ∷ []; present = v1 .disk .saved; saved = v1 .disk .saved }) r u)
+lawful-one bs sound safe r u a b e =
+    one-blob (record { bytes = bs; sound = sound; safe = safe }) _ r u refl (record { safe-within = a; sound-within = b; fits = omega arith }) fit-zero fit-zero
+
+abbrev bare : Opened
+bare = record { start = 0; end = 0; mark = 0; bounded = false; edge = noEdge }
+
+begun-happened : Happened four writes decodes begun (running (record { start = 0; end = 0; owed = None })) v1
+begun-happened = (
+  opened bare,
+  v0,
+  _,
+  answered (running (record { start = 0; end = 0; owed = None })),
+  (
+    fresh,
+    v0,
+    _,
+    answered (opened bare),
+    (refl, record { up = refl; disk = refl }, no-blobs (v0 .disk) 8 true refl fit fit),
+    refl,
+    inl (refl, (refl, refl)),
+    no-blobs (v0 .disk) 8 true refl fit fit,
+    tt,
+    refl,
+    refl,
+    refl,
+  ),
+  refl,
+  inl (
+    refl,
+    inl (
+      on (done (DropKey Hint) (v0 .disk)) 8 true,
+      (refl, refl, refl, refl, tt),
+      inl (
+        on (doneAll (DropKey Hint ∷ (Put Watermark 0 ∷ [])) (v0 .disk)) 8 true,
+        (refl, refl, refl, refl, tt),
+        inl (
+          on (doneAll (DropKey Hint ∷ (Put Watermark 0 ∷ (SyncKeys ∷ []))) (v0 .disk)) 8 true,
+          (refl, refl, refl, refl, tt),
+          inl (v1, (refl, refl, refl, refl, tt), (refl, refl)),
+        ),
+      ),
+    ),
+  ),
+  lawful-one [] 0 0 8 true (omega arith) (omega arith) (omega arith),
+  tt,
+  refl,
+  refl,
+  refl,
+)
+
+given-happened : Happened four writes decodes given (running (record { start = 0; end = 1; owed = None })) v2
+given-happened = (
+  running (record { start = 0; end = 0; owed = None }),
+  v1,
+  _,
+  answered (running (record { start = 0; end = 1; owed = None })),
+  begun-happened,
+  refl,
+  inl (v2, (refl, refl, refl, refl, refl), (refl, refl)),
+  lawful-one (writes 7) 2 0 6 true (omega arith) (omega arith) (omega arith),
+  (refl, tt),
+  refl,
+  refl,
+  refl,
+)
+
+lived-happened : Happened four writes decodes lived (opened bare) v4
+lived-happened = (
+  fresh,
+  v4,
+  _,
+  answered (opened bare),
+  (
+    over,
+    v3,
+    (
+      running (record { start = 0; end = 1; owed = None }),
+      v2,
+      _,
+      stopped (Wrote (Op.Sync 0)) Power,
+      ((0, 1), given-happened, refl, refl),
+      refl,
+      inr (
+        Power,
+        refl,
+        inr (
+          refl,
+          refl,
+          record {
+            down = refl;
+            most = refl;
+            middle = v2 .disk;
+            counted = inl refl;
+            weakened = (refl, record { kept = omega arith; fewer = omega arith; safe-grows = omega arith; safe-within = omega arith; same = refl; sound-within = omega arith; shorter = omega arith }, tt);
+            saved = refl;
+          },
+        ),
+      ),
+      lawful-one (writes 7) 2 0 6 false (omega arith) (omega arith) (omega arith),
+      tt,
+      refl,
+      refl,
+      refl,
+    ),
+    restarted,
+    lawful-one [] 0 0 8 true (omega arith) (omega arith) (omega arith),
+    refl,
+  ),
+  refl,
+  inl (refl, (refl, refl)),
+  lawful-one [] 0 0 8 true (omega arith) (omega arith) (omega arith),
+  tt,
+  refl,
+  refl,
+  refl,
+)
+
+pub taken-stands : Taken
+taken-stands = record { happened = lived-happened; agrees = lived-agrees }

@@ -1,4 +1,4 @@
--- Logs that are of no use, and that the ledger rejects; and a short history that it takes.
+-- Logs that are of no use, and that the ledger rejects; and a short history that the rules allow and it takes.
 use Prim.Native.Nat.{ℕ}
 use mathlib.Core.Path.{_≡_}
 use mathlib.Core.Bool.{Bool, true, false}
@@ -10,7 +10,9 @@ use Rattle.store.specs.declared.cause.Cause.the-variants.{Power}
 use Rattle.store.specs.declared.keys.Key.the-variants.{Hint, Watermark}
 use Rattle.store.specs.Disk.{View, Disk, Op, DropKey, Put, SyncKeys, Made, noKeys, done, doneAll}
 use Rattle.rules.specs.Rules.{Config, Fault}
+use Rattle.rules.specs.Open.{noEdge}
 use Rattle.ledger.specs.Ledger.{Ledger, Event, Called, Read, Restart, Open, Append, Commit, Publish, Done, Refused, Stopped, One, Gave, Failed, Agrees, entry, first, bounds}
+use Rattle.ledger.specs.Runs.{opened, Happened}
 
 -- four records of two bytes to a blob
 abbrev pub four : Config
@@ -38,7 +40,17 @@ pub record Useless : Type 0 where
       → (v : View) × (ops : List Op) × (o : Op) × Made ops v (Some (o, y)) w
   pub power-stopped : (c : Config) (es : List (Event ℕ)) (w : View) (m : Ledger ℕ) (s : Option (ℕ × ℕ)) → Agrees c (Called (Open None) (Stopped (Some Power)) s ∷ es) w m → w .up ≡ true → ⊥
 
--- a history that agrees: the stores that it passes, and its ledgers
+-- records of two bytes
+abbrev pub writes : ℕ → List ℕ
+writes r = 0 ∷ (r ∷ [])
+
+abbrev pub decodes : List ℕ → Option ℕ
+decodes [] = None
+decodes (a ∷ []) = None
+decodes (a ∷ (b ∷ [])) = Some b
+decodes (a ∷ (b ∷ (x ∷ xs))) = None
+
+-- the stores that a useful history passes
 abbrev pub on : Disk → ℕ → Bool → View
 on d r u = record { disk = d; up = u; room = λ b. r; most = 64 }
 
@@ -49,7 +61,7 @@ abbrev pub v1 : View
 v1 = on (doneAll (DropKey Hint ∷ (Put Watermark 0 ∷ (SyncKeys ∷ (Op.Open 0 ∷ [])))) (v0 .disk)) 8 true
 
 abbrev pub v2 : View
-v2 = on (done (Op.Append 0 (1 ∷ (2 ∷ []))) (v1 .disk)) 6 true
+v2 = on (done (Op.Append 0 (writes 7)) (v1 .disk)) 6 true
 
 -- the power goes, and the record with it
 abbrev pub v3 : View
@@ -61,8 +73,11 @@ v4 = on (record { blobs = (0, record { bytes = []; sound = 0; safe = 0 }) ∷ []
 abbrev pub l2 : Ledger ℕ
 l2 = entry four first (Append (7 ∷ []) 2)
 
+-- the record is read; the power stops a commit, and the next open finds an empty log
+abbrev pub lived : List (Event ℕ)
+lived = Called (Open None) Done (Some (0, 0)) ∷ (Restart ∷ (Called Commit (Stopped (Some Power)) None ∷ (Read (One 0) (Gave (7 ∷ [])) ∷ given)))
+
+-- the rules allow it, and it agrees with the ledger
 pub record Taken : Type 0 where
-  -- the record reads back
-  pub read-back : Agrees four (Read (One 0) (Gave (7 ∷ [])) ∷ given) v2 l2
-  -- a commit that the power stops loses it, and the next open finds an empty log
-  pub lost : Agrees four (Called (Open None) Done (Some (0, 0)) ∷ (Restart ∷ (Called Commit (Stopped (Some Power)) None ∷ given))) v4 (bounds l2 0 0 0 0)
+  pub happened : Happened four writes decodes lived (opened (record { start = 0; end = 0; mark = 0; bounded = false; edge = noEdge })) v4
+  pub agrees : Agrees four lived v4 (bounds l2 0 0 0 0)
