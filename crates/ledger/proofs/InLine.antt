@@ -5,7 +5,7 @@ use mathlib.Core.Logic.{_⊎_, inl, inr}
 use mathlib.Core.Bool.{Bool, true, false}
 use mathlib.Core.List.{List, [], _∷_, _++_, map, reverse}
 use lib.Dec.{ltb}
-use Rattle.std.proofs.shelf.Tests.{cond-both}
+use Rattle.std.proofs.shelf.Tests.{cond-both, cond-false}
 use Rattle.std.specs.declared.option.Option.{Option}
 use Rattle.std.specs.declared.option.Option.the-variants.{None, Some}
 use Rattle.store.specs.declared.keys.Key.the-variants.{Hint, Target, Watermark}
@@ -14,13 +14,13 @@ use Rattle.store.specs.Disk.{Blob, Blobs, Disk, View, find, numbers, Op, Open, 
 use Rattle.rules.specs.Rules.{Config, Plan, Fault, answer, refuse, ask, call, calls, refuseIf, persist, aligned, blobOf, badConfig, ItemPruned, Outcome, Follows}
 use Rattle.rules.specs.Open.{Opened}
 use Rattle.rules.specs.Calls.{truncating, truncated, truncate-rule, keysFirst, anchor, goes, lastBlob, count}
-use Rattle.ledger.specs.Ledger.{Ledger, Event, Called}
-use Rattle.ledger.specs.Runs.{Log, fresh, over, opened, trimmed, staged, running, leaving, ruleOf, Consecutive, Sized, Happened, InLine, InLineFor}
+use Rattle.ledger.specs.Ledger.{Ledger, Event, Called, Refused, Stopped}
+use Rattle.ledger.specs.Runs.{Log, fresh, over, opened, trimmed, staged, running, leaving, ruleOf, isLayout, endOf, Consecutive, Sized, Happened, InLine, InLineFor}
 use Rattle.ledger.specs.Ledger as ledger
 use Rattle.ledger.proofs.Blobs.{impossible, never}
 use Rattle.ledger.proofs.Invariant.{Safe}
 use Rattle.ledger.proofs.States.{State, Spans, trimmed-spans, state-safe}
-use Rattle.ledger.proofs.Law.{Sound, sound, holds}
+use Rattle.ledger.proofs.Law.{Sound, sound, holds, outcome}
 
 count-consecutive : (lo k : ℕ) → Consecutive (count lo k)
 count-consecutive lo zero = tt
@@ -159,6 +159,16 @@ module _ {R : Type 0} (c : Config) (writes : R → List ℕ) (decodes : List ℕ
         let b = holds c writes decodes (so .n) (so .z) (so .page) sized es (h .0) (h .1) (h .4) in
         let g = given (h .2) (h .0) (b .ledger) (h .1 .disk) m (b .state) (h .5) in
         unstaged (Called (ledger.Truncate m) e s ∷ es) l w h (follows-free (h .2) (h .1) w (h .3) (g .0) (g .1) (h .6));
+    published = λ es x s l w h.
+        let b = holds c writes decodes (so .n) (so .z) (so .page) sized es (h .0) (h .1) (h .4) in
+        let is : Stopped None ≡ endOf (h .3) = h .9 in
+        elim (outcome c writes decodes (so .n) (so .z) (so .page) sized es (h .0) (h .1) w b x (h .2) (h .3) (h .5) (h .6) .1) [
+          | inl a ↦ let e = is ∙ ap endOf (a .is) in impossible cc
+          | inr a ↦ elim a [
+            | inl f ↦ let e = is ∙ (ap endOf (f .is) ∙ cond-false (isLayout (f .fault)) (Stopped None) (Refused (f .fault)) (f .holds .plain)) in impossible cc
+            | inr o ↦ let e = is ∙ ap endOf (o .is) in impossible cc
+          ]
+        ];
   }
     where
       so : Sound c

@@ -13,9 +13,9 @@ use Rattle.std.specs.declared.option.Option.{Option}
 use Rattle.std.specs.declared.option.Option.the-variants.{None, Some}
 use Rattle.store.specs.Disk.{Blob, Blobs, View, find, Restarted}
 use Rattle.store.specs.Laws.{AllWhole, Lawful}
-use Rattle.rules.specs.Rules.{Config, badConfig, Outcome}
+use Rattle.rules.specs.Rules.{Plan, Follows, Config, badConfig, Outcome}
 use Rattle.ledger.specs.Ledger.{Ledger, first, Call, Open, Append, Truncate, Publish, Prune, Clear, Commit, Sync, Complete, Leave, End, Done, Refused, Stopped, Event, Restart, Called, Read, offers, after, inHand, Ends, shown, Agrees}
-use Rattle.ledger.specs.Runs.{Log, fresh, over, opened, trimmed, staged, running, spanOf, isLayout, endOf, logAfter, Happened, Sized, ReadBack, HandsIn, handedIn, Law}
+use Rattle.ledger.specs.Runs.{Log, fresh, over, opened, trimmed, staged, running, spanOf, isLayout, endOf, logAfter, ruleOf, Happened, Sized, ReadBack, HandsIn, handedIn, Law}
 use Rattle.ledger.specs.Ledger as hands
 use Rattle.ledger.proofs.Blobs.{impossible, never}
 use Rattle.ledger.proofs.Weakening.{safe-restarted, restart-falls, new-rests}
@@ -168,6 +168,16 @@ module _ {R : Type 0} (c : Config) (writes : R → List ℕ) (decodes : List ℕ
         (a .holds .clear, a .holds .left, (a .why, (a .ops, a .at, a .made))) (a .holds .safe) tt refl
         (left-backs c writes decodes (h .ledger) x (a .holds .ledger) (a .holds .left) (subst (λ (u : End). HandsIn c writes decodes x u) is packed) (h .backs))
 
+  -- how a call ends that the rules allow
+  pub outcome : (es : List (Event R)) (k : Log) (v w : View) (h : Holds es k v) (x : Call R) (p : Plan Log) (r : Outcome Log) → ruleOf c writes decodes k (v .disk) x ≡ Some p → Follows p v r w
+      → (offers (handOf k) x ≡ true) × (Answered (Dones c writes decodes k (h .ledger) x) v r w ⊎ (Turned (Faults c writes decodes k (h .ledger) x) v r w ⊎ Halted (Stops c writes decodes (h .ledger) x) v r w))
+  outcome es k v w h x p r rule follows =
+      let l : Ledger R = h .ledger in
+      let q = rule-event c writes decodes np zp pp sized l (v .disk) k x (small (v .disk .blobs) (h .lawful .whole)) (h .state) rule in (
+        q .1,
+        follows-leads (Stops c writes decodes l x) (Dones c writes decodes k l x) (Faults c writes decodes k l x) (stops-closed c writes decodes l x) p v w r (up-offered k x v (q .1) (h .up)) (q .0) follows,
+      )
+
   pub holds : (es : List (Event R)) (k : Log) (w : View) → Happened c writes decodes es k w → Holds es k w
   holds [] k w (kk, new, law) =
       let q = new-rests c writes w new in
@@ -184,10 +194,8 @@ module _ {R : Type 0} (c : Config) (writes : R → List ℕ) (decodes : List ℕ
   holds (Restart ∷ es) n w (k, v, before, r, law, nn) = subst (λ (u : Log). Holds (Restart ∷ es) u w) (sym nn) (restarts es k v w (holds es k v before) r law)
   holds (Called x e s ∷ es) n w (k, v, p, r, before, rule, follows, law, packed, ee, nn, span) =
       let h = holds es k v before in
-      let l : Ledger R = h .ledger in
-      let q = rule-event c writes decodes np zp pp sized l (v .disk) k x (small (v .disk .blobs) (h .lawful .whole)) (h .state) rule in
-      called es k v w h x e s n span law packed (q .1) r ee nn
-      (follows-leads (Stops c writes decodes l x) (Dones c writes decodes k l x) (Faults c writes decodes k l x) (stops-closed c writes decodes l x) p v w r (up-offered k x v (q .1) (h .up)) (q .0) follows)
+      let q = outcome es k v w h x p r rule follows in
+      called es k v w h x e s n span law packed (q .0) r ee nn (q .1)
   holds (Read q a ∷ es) n w (s, before, span, is) =
       let h = holds es n w before in
       let r = state-reads c writes decodes sized (h .ledger) w (h .backs) n s q (h .up) (h .state) span in

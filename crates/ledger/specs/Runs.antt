@@ -157,6 +157,8 @@ module _ {R : Type 0} (c : Config) (writes : R → List ℕ) (decodes : List ℕ
     pub unstaged : (es : List (Event R)) (l : Log) (w : View) → Happened es l w → w .disk .saved .target ≡ None → Consecutive (numbers (w .disk .blobs))
     -- so a truncate leaves them, wherever it stops
     pub truncated : (es : List (Event R)) (m : ℕ) (e : End) (s : Option (ℕ × ℕ)) (l : Log) (w : View) → Happened (Called (Truncate m) e s ∷ es) l w → Consecutive (numbers (w .disk .blobs))
+    -- and no publish finds them out of line: a call is stopped by its store only
+    pub published : (es : List (Event R)) (x : Call R) (s : Option (ℕ × ℕ)) (l : Log) (w : View) → Happened (Called x (Stopped None) s ∷ es) l w → ⊥
 
 -- the law of every configuration and every kind of record
 abbrev pub LawFor : Type 0 → Type 0

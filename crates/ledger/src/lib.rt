@@ -9,7 +9,7 @@ pub fn law_stands<R>() -> u8
     0
 }
 
-// Blobs are numbered one after the other wherever a truncate stops.
+// Blobs are numbered one after the other wherever a truncate stops, and no publish finds them otherwise.
 pub fn in_line_stands<R>() -> u8
     ensures { λ _. ⌜ InLineFor R ⌝ }
 {
