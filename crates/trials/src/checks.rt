@@ -1,4 +1,4 @@
-// Each call and each refusal, on a store with room for ten bytes a blob.
+// Each call and each refusal: one text for every make.
 use slots::parts::Slots;
 use slots::stores::SlotsStore;
 use std::test::*;
@@ -9,17 +9,19 @@ use store::restart::Past;
 use store::restart::Restart;
 use store::store::Store;
 
-// A blob comes, grows to its last byte, is cut, and goes.
-fn blobs<S: Store>(s: &mut S) -> Result<(), Fail> {
+// A blob comes, grows to its last byte, is cut, and goes. At first it has so much room.
+fn blobs<S: Store>(s: &mut S, room: usize) -> Result<(), Fail> {
+    let bytes = [5u8; 60];
+    check(4 < room && room <= 60)?;
     check(s.append(7, &[1]) == Err(Cause::Missing))?;
     check(s.open(7) == Ok(()))?;
     check(s.append(7, &[1, 2, 3, 4]) == Ok(()))?;
-    check(s.room(7) == Ok(6))?;
-    check(s.append(7, &[5; 7]) == Err(Cause::NoRoom))?;
-    check(s.append(7, &[5; 6]) == Ok(()))?;
+    check(s.room(7) == Ok((room - 4) as u64))?;
+    check(s.append(7, &bytes[0..room - 3]) == Err(Cause::NoRoom))?;
+    check(s.append(7, &bytes[0..room - 4]) == Ok(()))?;
     check(s.room(7) == Ok(0))?;
     check(s.append(7, &[9]) == Err(Cause::NoRoom))?;
-    check(s.truncate(7, 11) == Err(Cause::Range))?;
+    check(s.truncate(7, room as u64 + 1) == Err(Cause::Range))?;
     check(s.truncate(7, 4) == Ok(()))?;
     check(s.len(7) == Ok(4))?;
     check(s.open(7) == Ok(()))?;
@@ -92,7 +94,7 @@ fn keys<S: Store>(s: &mut S) -> Result<(), Fail> {
 #[test]
 fn slots_blobs(rt: LibcRuntime) -> Result<(), Fail> {
     let mut s = Slots::new(vec![in rt.alloc(); 0u8; 640]?, 100);
-    blobs(&mut s)
+    blobs(&mut s, 10)
 }
 
 #[test]
