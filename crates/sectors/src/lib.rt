@@ -1,0 +1,3 @@
+// Sectors of 64 bytes in chains: the memory of the chain store, without its blobs.
+pub mod chain;
+pub mod sector;
