@@ -1,1 +1,3 @@
 pub mod Links
+pub mod Paths
+pub mod Cuts

@@ -1,5 +1,5 @@
 -- Chains of sectors, and what becomes of two of them.
-use Prim.Native.Nat.{ℕ, _+_, _≤_}
+use Prim.Native.Nat.{ℕ, _+_, _<_, _≤_}
 use mathlib.Core.Path.{_≡_}
 use mathlib.Core.List.{List, _++_}
 use lib.ListN.{length, take}
@@ -27,6 +27,7 @@ pub record Both (mem : List ℕ) (a b : Chain) : Type 0 where
   pub one : Stands mem a
   pub other : Stands mem b
   pub apart : Apart mem (list mem a ++ list mem b)
+  pub few : a .count + b .count < 65536
 
 -- the payloads are as they were, and so are the next numbers of all sectors but those of xs
 pub record Relinked (mem xs new : List ℕ) : Type 0 where

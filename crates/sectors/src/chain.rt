@@ -5,3 +5,11 @@ pub struct Chain {
     pub last: usize,
     pub count: usize,
 }
+
+impl Chain {
+    pub const NONE: Chain = Chain {
+        first: 0,
+        last: 0,
+        count: 0,
+    };
+}

@@ -1,3 +1,4 @@
 // Sectors of 64 bytes in chains: the memory of the chain store, without its blobs.
 pub mod chain;
+pub mod link;
 pub mod sector;
