@@ -2,3 +2,4 @@ pub mod Links
 pub mod Paths
 pub mod Cuts
 pub mod Pieces
+pub mod Moves

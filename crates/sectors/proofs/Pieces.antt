@@ -65,7 +65,7 @@ written-left xs ys at bs l =
 drop-right : (xs ys : List ℕ) (n at : ℕ) → length xs ≡ n → drop (n + at) (xs ++ ys) ≡ drop at ys
 drop-right xs ys n at e = sym (drop-drop at n (xs ++ ys)) ∙ ap (drop at) (drop-at xs ys n e)
 
-written-right : (xs ys : List ℕ) (n at : ℕ) (bs : List ℕ) → length xs ≡ n → written (xs ++ ys) (n + at) bs ≡ xs ++ written ys at bs
+pub written-right : (xs ys : List ℕ) (n at : ℕ) (bs : List ℕ) → length xs ≡ n → written (xs ++ ys) (n + at) bs ≡ xs ++ written ys at bs
 written-right xs ys n at bs e =
     ap (λ zs. zs ++ (bs ++ drop (n + at + length bs) (xs ++ ys)))
     (take-add n at (xs ++ ys) ∙ ap (λ zs. zs ++ take at (drop n (xs ++ ys))) (take-at xs ys n e) ∙ ap (λ zs. xs ++ take at zs) (drop-at xs ys n e))
@@ -75,7 +75,7 @@ written-right xs ys n at bs e =
 
 -- payloads one after another ----------------------------------------------------------------------
 
-abbrev Sixties : (ℕ → List ℕ) → List ℕ → Type 0
+abbrev pub Sixties : (ℕ → List ℕ) → List ℕ → Type 0
 Sixties P xs = (q : ℕ) → 1 ≤ occurs q xs → length (P q) ≡ 60
 
 sixty : (P : ℕ → List ℕ) (x : ℕ) (xs : List ℕ) → Sixties P (x ∷ xs) → length (P x) ≡ 60
@@ -102,7 +102,7 @@ piece-at P (x ∷ xs) (suc i) r n h l m =
     ∙ ap (take n) (drop-right (P x) (joined P xs) 60 (60 * i + r) (sixty P x xs h))
     ∙ piece-at P xs i r n (rest P x xs h) (omega arith) m
 
-joined-same : (P Q : ℕ → List ℕ) (xs : List ℕ) → ((q : ℕ) → 1 ≤ occurs q xs → Q q ≡ P q) → joined Q xs ≡ joined P xs
+pub joined-same : (P Q : ℕ → List ℕ) (xs : List ℕ) → ((q : ℕ) → 1 ≤ occurs q xs → Q q ≡ P q) → joined Q xs ≡ joined P xs
 joined-same P Q [] h = refl
 joined-same P Q (x ∷ xs) h =
     ap (λ ys. ys ++ joined Q xs) (h x (occurs-self x xs)) ∙ ap (λ ys. P x ++ ys) (joined-same P Q xs (λ q l. h q (omega arith)))
