@@ -8,8 +8,8 @@ use mathlib.Core.List.{List, [], _∷_, _++_}
 use lib.ListN.{length, getD, take, drop}
 use Rattle.std.proofs.shelf.Lists.{same-lists, getD-take, getD-drop, drop-take, take-take, drop-drop}
 use Rattle.std.proofs.shelf.Tests.{cases-order, cases-lt}
-use Rattle.store.specs.Written.{written}
-use Rattle.store.proofs.Writes.{byte-outside, byte-inside, part-outside, length-part, length-written}
+use Rattle.catalog.specs.Written.{written}
+use Rattle.catalog.proofs.Writes.{byte-outside, byte-inside, part-outside, length-part, length-written}
 use Rattle.sectors.specs.Sectors.{nextOf, payload, be4, Linked, Stored}
 
 next-outside : (mem : List ℕ) (at : ℕ) (bs : List ℕ) → at + length bs ≤ length mem → (s : ℕ)

@@ -8,7 +8,7 @@ use mathlib.Core.List.{List, [], _∷_}
 use lib.ListN.{length, getD, take, drop}
 use lib.Dec.{ltb}
 use Rattle.store.specs.Occurs.{occurs}
-use Rattle.store.specs.Written.{written}
+use Rattle.catalog.specs.Written.{written}
 
 unfoldable pub nextOf : List ℕ → ℕ → ℕ
 nextOf mem s =

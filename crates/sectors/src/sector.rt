@@ -3,7 +3,7 @@ ghost use Prim.Native.Nat.{ℕ, _+_, _*_, _^_, _<_, _≤_};
 ghost use mathlib.Core.Path.{_≡_};
 ghost use lib.ListN.{length, take, drop};
 ghost use Rattle.sectors.specs.Sectors.{nextOf, payload, Linked, Stored};
-use store::bytes::put_bytes;
+use catalog::bytes::put_bytes;
 
 // The next number of a sector, and its payload.
 pub fn parts(memory: &[u8], s: usize) -> (usize, &[u8])

@@ -2,9 +2,10 @@
 use Prim.Native.Nat.{ℕ, _^_, _<_, _≤_}
 use mathlib.Core.List.{List, [], _∷_}
 use lib.ListN.{length, getD}
-use Rattle.std.specs.declared.option.Option.{Option}
-use Rattle.std.specs.declared.option.Option.the-variants.{None, Some}
+use Rattle.std.specs.Options.{valueOr}
+use Rattle.store.specs.declared.keys.Key.{Key}
 use Rattle.store.specs.declared.keys.Keys.{Keys}
+use Rattle.store.specs.Ask.{keyAt}
 use Rattle.store.specs.Disk.{Blob, Blobs, View, numbers}
 
 abbrev pub Rising : List ℕ → Type 0
@@ -24,14 +25,9 @@ abbrev pub AllWhole : Blobs → Type 0
 AllWhole [] = Unit {0}
 AllWhole (x ∷ xs) = Whole (x .1) × AllWhole xs
 
-abbrev pub KeyFits : Option ℕ → Type 0
-KeyFits None = Unit {0}
-KeyFits (Some n) = n < 2 ^ 64
-
-pub record KeysFit (k : Keys) : Type 0 where
-  pub hint : KeyFits (k .hint)
-  pub target : KeyFits (k .target)
-  pub watermark : KeyFits (k .watermark)
+-- each key's number fits 64 bits
+abbrev pub KeysFit : Keys → Type 0
+KeysFit ks = (k : Key) → valueOr (keyAt k ks) 0 < 2 ^ 64
 
 pub record Lawful (v : View) : Type 0 where
   pub rising : Rising (numbers (v .disk .blobs))

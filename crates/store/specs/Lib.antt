@@ -2,7 +2,6 @@ pub mod Disk
 pub mod Ask
 pub mod Laws
 pub mod Place
-pub mod Written
 pub mod Left
 pub mod Built
 pub mod Occurs

@@ -1,5 +1,4 @@
 // What a store is: its causes, its keys, and the trait with a contract for each call.
-pub mod bytes;
 pub mod cause;
 pub mod keys;
 pub mod restart;

@@ -5,7 +5,7 @@ use Prim.Native.Nat.{_+_, _-_, _/_, _%_, min, _≤_}
 use lib.ListN.{length, take, drop}
 use Rattle.std.proofs.shelf.Lists.{take-all}
 use Rattle.std.proofs.shelf.Parts.{take-putMid}
-use Rattle.store.proofs.Writes.{length-part}
+use Rattle.catalog.proofs.Writes.{length-part}
 use Rattle.sectors.specs.Sectors.{nextOf, payload, sectors}
 use Rattle.sectors.specs.Chains.{list, joint}
 use Rattle.sectors.proofs.Paths.{apart-part, fewer}

@@ -4,7 +4,7 @@ use mathlib.Core.List.{List, _++_}
 use Prim.Native.Nat.{ℕ, _+_, _-_, _/_, _%_, min, _≤_}
 use lib.ListN.{length, take, drop}
 use Rattle.std.proofs.shelf.Lists.{take-all, length-take-le}
-use Rattle.store.proofs.Writes.{length-part}
+use Rattle.catalog.proofs.Writes.{length-part}
 use Rattle.sectors.specs.Sectors.{nextOf, sectors}
 use Rattle.sectors.specs.Chains.{list, Filled}
 use Rattle.sectors.proofs.Paths.{apart-part, fewer}

@@ -2,7 +2,7 @@ use native.Mathlib.Omega.{arith}
 use mathlib.Core.Path.{sym, ap, _∙_, subst}
 use mathlib.Core.List.{List}
 use Prim.Native.Nat.{ℕ, _*_}
-use Rattle.store.specs.Written.{written}
+use Rattle.catalog.specs.Written.{written}
 use Rattle.sectors.specs.Sectors.{Linked}
 use Rattle.sectors.proofs.Links.{linked}
 use Rattle.sectors.proofs.sector.set_next.Needs as need

@@ -1,0 +1,8 @@
+pub mod Live
+pub mod Moves
+pub mod Kept
+pub mod Lookup
+pub mod Change
+pub mod Comes
+pub mod Writes
+pub mod Stored

@@ -1,0 +1,5 @@
+pub mod Rows
+pub mod Blobs
+pub mod Found
+pub mod Written
+pub mod Seen

@@ -1,0 +1,69 @@
+// The writing calls that leave every byte where it is. Each sees first to the power, then to the other causes.
+ghost use Prim.Native.Nat.{_<_};
+ghost use mathlib.Core.Path.{_≡_};
+ghost use mathlib.Core.Bool.{false};
+ghost use Rattle.store.specs.Disk.{Op, Sync, Put, DropKey, SyncKeys};
+ghost use Rattle.catalog.specs.Seen.{Called};
+use crate::catalog::Catalog;
+use store::cause::Cause;
+use store::keys::Key;
+
+impl Catalog {
+    // The power goes before anything is written: for every writing call.
+    pub fn stop(&mut self) -> Result<(), Cause>
+        requires { ⌜ (0 < now self .calls → now self .up ≡ false) ⌝ }
+        ensures { λ r. ⌜ ((o : Op) → Called o (now (self .entry)) r (now (self .exit))) ⌝ }
+    {
+        self.up = false;
+        Err(Cause::Power)
+    }
+
+    pub fn sync(&mut self, b: u64) -> Result<(), Cause>
+        ensures { λ r. ⌜ Called (Sync b) (now (self .entry)) r (now (self .exit)) ⌝ }
+    {
+        if !self.up || self.calls == 0 {
+            return self.stop();
+        }
+        let Some(i) = self.table.find(b) else {
+            return Err(Cause::Missing);
+        };
+        let row = self.table.rows[i];
+        self.table.change(i, row.synced());
+        self.calls -= 1;
+        Ok(())
+    }
+
+    pub fn put(&mut self, k: Key, v: u64) -> Result<(), Cause>
+        ensures { λ r. ⌜ Called (Put k v) (now (self .entry)) r (now (self .exit)) ⌝ }
+    {
+        if !self.up || self.calls == 0 {
+            return self.stop();
+        }
+        self.present = self.present.with(k, Some(v));
+        self.calls -= 1;
+        Ok(())
+    }
+
+    pub fn drop_key(&mut self, k: Key) -> Result<(), Cause>
+        ensures { λ r. ⌜ Called (DropKey k) (now (self .entry)) r (now (self .exit)) ⌝ }
+    {
+        if !self.up || self.calls == 0 {
+            return self.stop();
+        }
+        self.present = self.present.with(k, None);
+        self.calls -= 1;
+        Ok(())
+    }
+
+    pub fn sync_keys(&mut self) -> Result<(), Cause>
+        ensures { λ r. ⌜ Called SyncKeys (now (self .entry)) r (now (self .exit)) ⌝ }
+    {
+        if !self.up || self.calls == 0 {
+            return self.stop();
+        }
+        let keys = self.present;
+        self.saved = keys;
+        self.calls -= 1;
+        Ok(())
+    }
+}
