@@ -45,25 +45,27 @@ module _ (f g : ℕ → ℕ) (i s t : ℕ) (some : 0 < i) (last : t ≡ lastOf i
       let h = here in
       let a = front (omega arith) in
       let b = clear-of f g t others j u (omega arith) in
-      let n : after i g s ≡ u = a .1 ∙ e in
-      (sectors-add i j g s ∙ ap (λ xs. xs ++ sectors j g (after i g s)) (a .0) ∙ ap (λ x. sectors i f s ++ sectors j g x) n ∙ ap (λ ys. sectors i f s ++ ys) (b .0),
-      after-add i j g s ∙ ap (after j g) n ∙ b .1 ∙ ends,
-      last-add i j g s more ∙ ap (lastOf j g) n ∙ b .2)
+      let n : after i g s ≡ u = a .1 ∙ e in (
+        sectors-add i j g s ∙ ap (λ xs. xs ++ sectors j g (after i g s)) (a .0) ∙ ap (λ x. sectors i f s ++ sectors j g x) n ∙ ap (λ ys. sectors i f s ++ ys) (b .0),
+        after-add i j g s ∙ ap (after j g) n ∙ b .1 ∙ ends,
+        last-add i j g s more ∙ ap (lastOf j g) n ∙ b .2,
+      )
 
   pub splits-by : (j : ℕ) → 0 < j → g t ≡ 0 → occurs t (sectors (i + j) f s) ≤ 1 → after (i + j) f s ≡ 0
       → (sectors i g s ++ sectors j g (f t) ≡ sectors (i + j) f s) × (after i g s ≡ 0) × (lastOf i g s ≡ t)
-        × (after j g (f t) ≡ 0) × (lastOf j g (f t) ≡ lastOf (i + j) f s)
+      × (after j g (f t) ≡ 0) × (lastOf j g (f t) ≡ lastOf (i + j) f s)
   splits-by j more e l ends =
       let h = here in
       let n : f t ≡ after i f s = ap f last ∙ next-last i f s some in
       let o = ap (occurs t) (sectors-add i j f s) ∙ occurs-append t (sectors i f s) (sectors j f (after i f s)) in
       let a = front (omega arith) in
-      let b = clear-of f g t others j (after i f s) (omega arith) in
-      (ap (λ xs. xs ++ sectors j g (f t)) (a .0) ∙ ap (λ x. sectors i f s ++ sectors j g x) n ∙ ap (λ ys. sectors i f s ++ ys) (b .0) ∙ sym (sectors-add i j f s),
-      a .1 ∙ e,
-      a .2,
-      ap (after j g) n ∙ b .1 ∙ sym (after-add i j f s) ∙ ends,
-      ap (lastOf j g) n ∙ b .2 ∙ sym (last-add i j f s more))
+      let b = clear-of f g t others j (after i f s) (omega arith) in (
+        ap (λ xs. xs ++ sectors j g (f t)) (a .0) ∙ ap (λ x. sectors i f s ++ sectors j g x) n ∙ ap (λ ys. sectors i f s ++ ys) (b .0) ∙ sym (sectors-add i j f s),
+        a .1 ∙ e,
+        a .2,
+        ap (after j g) n ∙ b .1 ∙ sym (after-add i j f s) ∙ ends,
+        ap (lastOf j g) n ∙ b .2 ∙ sym (last-add i j f s more),
+      )
 
 -- the one sector whose next number changes is one of xs
 relinked : (mem xs new : List ℕ) (t n : ℕ) → 1 ≤ occurs t xs → Linked mem t n new → Relinked mem xs new
@@ -112,13 +114,16 @@ splits mem new c a b k some more stands apart linked at first count next last re
         last = last ∙ stands .last ∙ ap (λ m. lastOf m f (c .first)) n ∙ sym (ap (λ m. lastOf m g (b .first)) rest ∙ ap (lastOf j g) next ∙ r .4);
       };
       sectors =
-        ap (λ m. sectors m g (a .first) ++ list new b) count
-        ∙ ap (λ x. sectors k g x ++ list new b) first
-        ∙ ap (λ m. sectors k g (c .first) ++ sectors m g (b .first)) rest
-        ∙ ap (λ x. sectors k g (c .first) ++ sectors j g x) next
-        ∙ r .0
-        ∙ ap (λ m. sectors m f (c .first)) (sym n);
+          ap (λ m. sectors m g (a .first) ++ list new b) count
+          ∙ ap (λ x. sectors k g x ++ list new b) first
+          ∙ ap (λ m. sectors k g (c .first) ++ sectors m g (b .first)) rest
+          ∙ ap (λ x. sectors k g (c .first) ++ sectors j g x) next
+          ∙ r .0
+          ∙ ap (λ m. sectors m f (c .first)) (sym n);
       counts = (count, omega arith);
-      relinked = relinked mem (list mem c) new t 0 (omega (arith, fewer k (c .count) f (c .first) (omega arith) t,
-          here f g k (c .first) t some at (linked .others))) linked;
+      relinked = relinked mem (list mem c) new t 0 (omega (
+        arith,
+        fewer k (c .count) f (c .first) (omega arith) t,
+        here f g k (c .first) t some at (linked .others),
+      )) linked;
     }

@@ -45,7 +45,7 @@ module _ (mem mid new : List ℕ) (c f : Chain) (k : ℕ) (a b : Chain) (long-mi
           one = chain-mid .0;
           other = cut .front;
           apart = apart-long mem mid (list mid c ++ list mid a) long-mid
-            (apart-part mem (list mid c ++ list mid a) (list mem c ++ list mem f) (both .apart)
+              (apart-part mem (list mid c ++ list mid a) (list mem c ++ list mem f) (both .apart)
               (λ p. omega (arith, occurs-append p (list mid c) (list mid a), occurs-append p (list mem c) (list mem f), parted p, ap (occurs p) (chain-mid .1))));
           few = omega (arith, both .few, cut .counts .0, cut .counts .1);
         }
@@ -58,7 +58,12 @@ module _ (mem mid new : List ℕ) (c f : Chain) (k : ℕ) (a b : Chain) (long-mi
       same : (p : ℕ) → uses new d b p ≡ uses mem c f p
       same p =
           omega (
-            arith, parted p, ap (occurs p) (left .1), ap (occurs p) (chain-mid .1), ap (occurs p) (whole .sectors), occurs-append p (list mid c) (list mid a),
+            arith,
+            parted p,
+            ap (occurs p) (left .1),
+            ap (occurs p) (chain-mid .1),
+            ap (occurs p) (whole .sectors),
+            occurs-append p (list mid c) (list mid a),
           )
 
       pub moved-taken : Moved mem c f new d b
@@ -68,7 +73,7 @@ module _ (mem mid new : List ℕ) (c f : Chain) (k : ℕ) (a b : Chain) (long-mi
               one = whole .stands;
               other = left .0;
               apart = apart-long mem new (list new d ++ list new b) long-new
-                (apart-part mem (list new d ++ list new b) (list mem c ++ list mem f) (both .apart)
+                  (apart-part mem (list new d ++ list new b) (list mem c ++ list mem f) (both .apart)
                   (λ p. omega (arith, same p, occurs-append p (list new d) (list new b), occurs-append p (list mem c) (list mem f))));
               few = omega (arith, both .few, cut .counts .1, whole .count);
             };
@@ -100,7 +105,7 @@ module _ (mem mid new : List ℕ) (c f : Chain) (k : ℕ) (a b : Chain) (long-mi
           one = cut .rest;
           other = free-mid .0;
           apart = apart-long mem mid (list mid b ++ list mid f) long-mid
-            (apart-part mem (list mid b ++ list mid f) (list mem c ++ list mem f) (both .apart)
+              (apart-part mem (list mid b ++ list mid f) (list mem c ++ list mem f) (both .apart)
               (λ p. omega (arith, occurs-append p (list mid b) (list mid f), occurs-append p (list mem c) (list mem f), halves p, ap (occurs p) (free-mid .1))));
           few = omega (arith, both .few, cut .counts .0, cut .counts .1);
         }
@@ -112,7 +117,12 @@ module _ (mem mid new : List ℕ) (c f : Chain) (k : ℕ) (a b : Chain) (long-mi
       same-left : (p : ℕ) → uses new a g p ≡ uses mem c f p
       same-left p =
           omega (
-            arith, halves p, ap (occurs p) (kept .1), ap (occurs p) (free-mid .1), ap (occurs p) (whole .sectors), occurs-append p (list mid b) (list mid f),
+            arith,
+            halves p,
+            ap (occurs p) (kept .1),
+            ap (occurs p) (free-mid .1),
+            ap (occurs p) (whole .sectors),
+            occurs-append p (list mid b) (list mid f),
           )
 
       pub moved-left : Moved mem c f new a g
@@ -122,7 +132,7 @@ module _ (mem mid new : List ℕ) (c f : Chain) (k : ℕ) (a b : Chain) (long-mi
               one = kept .0;
               other = whole .stands;
               apart = apart-long mem new (list new a ++ list new g) long-new
-                (apart-part mem (list new a ++ list new g) (list mem c ++ list mem f) (both .apart)
+                  (apart-part mem (list new a ++ list new g) (list mem c ++ list mem f) (both .apart)
                   (λ p. omega (arith, same-left p, occurs-append p (list new a) (list new g), occurs-append p (list mem c) (list mem f))));
               few = omega (arith, both .few, cut .counts .1, whole .count);
             };

@@ -115,7 +115,8 @@ module _ (f g : ℕ → ℕ) (t : ℕ) (others : (q : ℕ) → (q ≡ t → ⊥)
       let m : occurs t (sectors (suc k) f s) ≡ occurs t (sectors k f s) + occurs t (t ∷ []) =
       ap (occurs t) (sectors-more k f s ∙ ap (λ x. sectors k f s ++ x ∷ []) (sym e)) ∙ occurs-append t (sectors k f s) (t ∷ []) in
       let r = chain-same k f g s (same-at (sectors k f s) (omega (arith, occurs-self t []))) in
-      let a : after k g s ≡ t = r .1 ∙ sym e in
-      (sectors-more k g s ∙ ap (λ xs. xs ++ after k g s ∷ []) (r .0) ∙ ap (λ x. sectors k f s ++ x ∷ []) (r .1) ∙ sym (sectors-more k f s),
-      a,
-      after-more k g s ∙ ap g a)
+      let a : after k g s ≡ t = r .1 ∙ sym e in (
+        sectors-more k g s ∙ ap (λ xs. xs ++ after k g s ∷ []) (r .0) ∙ ap (λ x. sectors k f s ++ x ∷ []) (r .1) ∙ sym (sectors-more k f s),
+        a,
+        after-more k g s ∙ ap g a,
+      )

@@ -151,7 +151,7 @@ pub piece : (mem : List ℕ) (c : Chain) (at n s : ℕ) → Apart mem (list mem 
 piece mem c at n s h l m e =
     ap (λ k. take n (drop k (joint mem c))) (let z : at ≡ 60 * (at / 60) + at % 60 = omega arith in z)
     ∙ piece-at (payload mem) (list mem c) (at / 60) (at % 60) n (sixties mem (list mem c) h)
-      (omega (arith, length-sectors (c .count) (nextOf mem) (c .first))) m
+    (omega (arith, length-sectors (c .count) (nextOf mem) (c .first))) m
     ∙ ap (λ x. take n (drop (at % 60) (payload mem x))) (sector-at (c .count) (nextOf mem) (c .first) (at / 60) l ∙ sym e)
 
 -- a sector that a walk comes to lies in the memory
@@ -174,11 +174,11 @@ filled-more mem c at xs now w s ys new h n a l i m e was put =
     let in-zs : 1 ≤ occurs s zs = occurs-at s zs (w / 60) (omega (arith, length-sectors (c .count) (nextOf mem) (c .first))) s-at in
     record {
       joint =
-        joined-stored (payload now) (payload new) s (w % 60) ys (put .here) (put .others) m zs (w / 60) (sixties now zs h′)
+          joined-stored (payload now) (payload new) s (w % 60) ys (put .here) (put .others) m zs (w / 60) (sixties now zs h′)
           (omega (arith, length-sectors (c .count) (nextOf mem) (c .first))) s-at (at-most-once mem zs h s)
-        ∙ ap (λ j. written (joined (payload now) zs) j ys) (let z : 60 * (w / 60) + w % 60 ≡ at + length xs = omega arith in z)
-        ∙ ap (λ js. written js (at + length xs) ys) (was .joint)
-        ∙ written-more (joint mem c) at xs ys (omega (arith, length-joint mem c h));
+          ∙ ap (λ j. written (joined (payload now) zs) j ys) (let z : 60 * (w / 60) + w % 60 ≡ at + length xs = omega arith in z)
+          ∙ ap (λ js. written js (at + length xs) ys) (was .joint)
+          ∙ written-more (joint mem c) at xs ys (omega (arith, length-joint mem c h));
       nexts = λ q. put .nexts q ∙ was .nexts q;
       others = λ q z. put .others q (λ f. let v = ap (λ p. occurs p zs) f in omega arith) ∙ was .others q z;
     }
@@ -211,10 +211,11 @@ pub turn-in : (mem : List ℕ) (d : Chain) (at n t : ℕ) (xs now : List ℕ) (d
     → length now ≡ length mem → length xs ≡ done → Filled mem d at xs now → Leads mem d at n done s → done < n
     → k ≡ min (60 - (at + done) % 60) (n - done) → length ys ≡ k → Stored now s ((at + done) % 60) ys new → r ≡ nextOf now s
     → Filled mem d at (xs ++ ys) new × Leads mem d at n (done + k) r
-turn-in mem d at n t xs now done s k ys r new suits long e was leads l m y put next =
-    (filled-more mem d at xs now (at + done) s ys new (suits .apart) long (omega arith) (omega (arith, suits .within)) (omega (arith, suits .within))
+turn-in mem d at n t xs now done s k ys r new suits long e was leads l m y put next = (
+  filled-more mem d at xs now (at + done) s ys new (suits .apart) long (omega arith) (omega (arith, suits .within)) (omega (arith, suits .within))
       (omega arith) (leads l) was put,
-    leads-more mem d at n done k s r leads l m (next ∙ was .nexts s))
+  leads-more mem d at n done k s r leads l m (next ∙ was .nexts s),
+)
 
 -- one turn of a loop that reads
 pub turn-out : (mem : List ℕ) (d : Chain) (at n t : ℕ) (done s k : ℕ) → Suits mem d at n t → Leads mem d at n done s → done < n
@@ -224,4 +225,4 @@ turn-out mem d at n t done s k suits leads l m =
     take-add done k (drop at (joint mem d))
     ∙ ap (λ ys. take done (drop at (joint mem d)) ++ take k ys) (drop-drop done at (joint mem d))
     ∙ ap (λ ys. take done (drop at (joint mem d)) ++ ys)
-      (piece mem d (at + done) k s (suits .apart) (omega (arith, suits .within)) (omega arith) (leads l))
+    (piece mem d (at + done) k s (suits .apart) (omega (arith, suits .within)) (omega arith) (leads l))

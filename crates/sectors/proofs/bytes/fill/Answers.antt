@@ -43,14 +43,15 @@ loop-done-again c =
     let e : k - 0 ≡ k = omega arith in
     let same : take (k - 0) (replicate 60 v) ≡ replicate k v = take-replicate (k - 0) 60 v (omega arith) ∙ ap (λ j. replicate j v) e in
     let long : length (take (k - 0) (replicate 60 v)) ≡ k = ap length same ∙ length-replicate k v in
-    let more : replicate done v ++ take (k - 0) (replicate 60 v) ≡ replicate (done + k) v = ap (λ ys. replicate done v ++ ys) same ∙ replicate-append-replicate done k v in
-    (omega arith,
-    λ d h.
-      let i = c .loop-done .inv .1 d h in
-      let r = turn-in mem d at n (c .walk-s .result) (replicate done v) (c .loop-done .memory) done (c .loop-done .s) k (take (k - 0) (replicate 60 v))
-        (c .copy-in-s .result) (c .copy-in-s .last .memory) h (c .loop-done .kept .memory) (length-replicate done v) (i .0) (i .1) (omega arith)
-        (c .min-n .ensures) long (c .copy-in-s .ensures .stored) (c .copy-in-s .ensures .next) in
-      (subst (λ (xs : List ℕ). Filled mem d at xs (c .copy-in-s .last .memory)) more (r .0), r .1))
+    let more : replicate done v ++ take (k - 0) (replicate 60 v) ≡ replicate (done + k) v = ap (λ ys. replicate done v ++ ys) same ∙ replicate-append-replicate done k v in (
+      omega arith,
+      λ d h.
+          let i = c .loop-done .inv .1 d h in
+          let r = turn-in mem d at n (c .walk-s .result) (replicate done v) (c .loop-done .memory) done (c .loop-done .s) k (take (k - 0) (replicate 60 v))
+          (c .copy-in-s .result) (c .copy-in-s .last .memory) h (c .loop-done .kept .memory) (length-replicate done v) (i .0) (i .1) (omega arith)
+          (c .min-n .ensures) long (c .copy-in-s .ensures .stored) (c .copy-in-s .ensures .next) in
+          (subst (λ (xs : List ℕ). Filled mem d at xs (c .copy-in-s .last .memory)) more (r .0), r .1),
+    )
 
 pub returns : need.returns
 returns c =

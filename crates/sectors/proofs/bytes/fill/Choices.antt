@@ -11,7 +11,7 @@ abbrev pub Inv-loop-done : given.InvT-loop-done
 Inv-loop-done l =
     (l .done ≤ l .many)
     × ((d : Chain) → Suits (l .entry .memory) d (l .at) (l .many) (l .entry .s)
-       → Filled (l .entry .memory) d (l .at) (replicate (l .done) (l .value)) (l .memory) × Leads (l .entry .memory) d (l .at) (l .many) (l .done) (l .s))
+    → Filled (l .entry .memory) d (l .at) (replicate (l .done) (l .value)) (l .memory) × Leads (l .entry .memory) d (l .at) (l .many) (l .done) (l .s))
 
 abbrev pub μ-loop-done : given.MeasureT-loop-done
 μ-loop-done l = l .many - l .done

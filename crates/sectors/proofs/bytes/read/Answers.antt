@@ -43,15 +43,17 @@ loop-done-again c =
     let m : k ≡ min (60 - (at + done) % 60) (n - done) = c .min-n .ensures ∙ ap (λ j. min (60 - (at + done) % 60) (j - done)) (c .loop-done .kept .out) in
     let got : c .copy-out-s .last .out ≡ take k (drop ((at + done) % 60) (payload mem (c .loop-done .s))) =
     c .copy-out-s .ensures .bytes ∙ ap (λ j. take j (drop ((at + done) % 60) (payload mem (c .loop-done .s)))) long in
-    let len : length (c .copy-out-s .last .out) ≡ k = omega arith in
-    (omega arith,
-    λ d h.
-      let i = c .loop-done .inv .1 d h in
-      (take-putMid done part (c .loop-done .out) (c .copy-out-s .last .out) (done + k) (omega arith) (omega arith)
-        ∙ ap (λ ys. ys ++ c .copy-out-s .last .out) (i .0)
-        ∙ ap (λ ys. take done (drop at (joint mem d)) ++ ys) got
-        ∙ sym (turn-out mem d at n (c .walk-s .result) done (c .loop-done .s) k h (i .1) (omega arith) m),
-      leads-more mem d at n done k (c .loop-done .s) (c .copy-out-s .result) (i .1) (omega arith) m (c .copy-out-s .ensures .next)))
+    let len : length (c .copy-out-s .last .out) ≡ k = omega arith in (
+      omega arith,
+      λ d h.
+          let i = c .loop-done .inv .1 d h in (
+            take-putMid done part (c .loop-done .out) (c .copy-out-s .last .out) (done + k) (omega arith) (omega arith)
+                ∙ ap (λ ys. ys ++ c .copy-out-s .last .out) (i .0)
+                ∙ ap (λ ys. take done (drop at (joint mem d)) ++ ys) got
+                ∙ sym (turn-out mem d at n (c .walk-s .result) done (c .loop-done .s) k h (i .1) (omega arith) m),
+            leads-more mem d at n done k (c .loop-done .s) (c .copy-out-s .result) (i .1) (omega arith) m (c .copy-out-s .ensures .next),
+          ),
+    )
 
 pub returns : need.returns
 returns c =

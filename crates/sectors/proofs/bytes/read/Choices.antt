@@ -11,7 +11,7 @@ abbrev pub Inv-loop-done : given.InvT-loop-done
 Inv-loop-done l =
     (l .done ≤ length (l .entry .out))
     × ((d : Chain) → Suits (l .memory) d (l .at) (length (l .entry .out)) (l .entry .s)
-       → (take (l .done) (l .out) ≡ take (l .done) (drop (l .at) (joint (l .memory) d))) × Leads (l .memory) d (l .at) (length (l .entry .out)) (l .done) (l .s))
+    → (take (l .done) (l .out) ≡ take (l .done) (drop (l .at) (joint (l .memory) d))) × Leads (l .memory) d (l .at) (length (l .entry .out)) (l .done) (l .s))
 
 abbrev pub μ-loop-done : given.MeasureT-loop-done
 μ-loop-done l = length (l .entry .out) - l .done

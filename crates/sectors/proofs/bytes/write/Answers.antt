@@ -44,14 +44,15 @@ loop-done-again c =
     let part = done + k - done in
     let e : part ≡ k = omega arith in
     let long : length (take part (drop done bs)) ≡ k = length-part bs done part (omega arith) ∙ e in
-    let more : take done bs ++ take part (drop done bs) ≡ take (done + k) bs = ap (λ j. take done bs ++ take j (drop done bs)) e ∙ sym (take-add done k bs) in
-    (omega arith,
-    λ d h.
-      let i = c .loop-done .inv .1 d h in
-      let r = turn-in mem d at n (c .walk-s .result) (take done bs) (c .loop-done .memory) done (c .loop-done .s) k (take part (drop done bs))
-        (c .copy-in-s .result) (c .copy-in-s .last .memory) h (c .loop-done .kept .memory) (length-take-le done bs (omega arith)) (i .0) (i .1) (omega arith)
-        (c .min-n .ensures) long (c .copy-in-s .ensures .stored) (c .copy-in-s .ensures .next) in
-      (subst (λ (xs : List ℕ). Filled mem d at xs (c .copy-in-s .last .memory)) more (r .0), r .1))
+    let more : take done bs ++ take part (drop done bs) ≡ take (done + k) bs = ap (λ j. take done bs ++ take j (drop done bs)) e ∙ sym (take-add done k bs) in (
+      omega arith,
+      λ d h.
+          let i = c .loop-done .inv .1 d h in
+          let r = turn-in mem d at n (c .walk-s .result) (take done bs) (c .loop-done .memory) done (c .loop-done .s) k (take part (drop done bs))
+          (c .copy-in-s .result) (c .copy-in-s .last .memory) h (c .loop-done .kept .memory) (length-take-le done bs (omega arith)) (i .0) (i .1) (omega arith)
+          (c .min-n .ensures) long (c .copy-in-s .ensures .stored) (c .copy-in-s .ensures .next) in
+          (subst (λ (xs : List ℕ). Filled mem d at xs (c .copy-in-s .last .memory)) more (r .0), r .1),
+    )
 
 pub returns : need.returns
 returns c =

@@ -11,7 +11,7 @@ abbrev pub Inv-loop-done : given.InvT-loop-done
 Inv-loop-done l =
     (l .done ≤ length (l .bytes))
     × ((d : Chain) → Suits (l .entry .memory) d (l .at) (length (l .bytes)) (l .entry .s)
-       → Filled (l .entry .memory) d (l .at) (take (l .done) (l .bytes)) (l .memory) × Leads (l .entry .memory) d (l .at) (length (l .bytes)) (l .done) (l .s))
+    → Filled (l .entry .memory) d (l .at) (take (l .done) (l .bytes)) (l .memory) × Leads (l .entry .memory) d (l .at) (length (l .bytes)) (l .done) (l .s))
 
 abbrev pub μ-loop-done : given.MeasureT-loop-done
 μ-loop-done l = length (l .bytes) - l .done

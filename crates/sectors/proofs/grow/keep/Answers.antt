@@ -38,6 +38,6 @@ returns c =
       moved = moved-left mem mid new d f (c .args .k) a b long long′ (c .pre .0) (c .split .ensures) (c .join .result) (c .join .ensures);
       count = c .split .ensures .counts .0;
       bytes = front-bytes mem new d a (c .args .k) apart (c .pre .1)
-        (payloads-left mem mid new d f (c .args .k) a b long long′ (c .pre .0) (c .split .ensures) (c .join .result) (c .join .ensures))
-        (list-left mem mid new d f (c .args .k) a b long long′ (c .pre .0) (c .split .ensures) (c .join .result) (c .join .ensures));
+          (payloads-left mem mid new d f (c .args .k) a b long long′ (c .pre .0) (c .split .ensures) (c .join .result) (c .join .ensures))
+          (list-left mem mid new d f (c .args .k) a b long long′ (c .pre .0) (c .split .ensures) (c .join .result) (c .join .ensures));
     }
