@@ -1,0 +1,2 @@
+// A store of 64-byte sectors in chains.
+pub mod chains;
