@@ -33,7 +33,7 @@ module _ (rs : List Row) (n : ℕ) (h : n ≤ length rs) where
 -- one row is changed ---------------------------------------------------------------------------------
 
 -- what the new row has as the old one had it
-pub map-same : (f : Row → ℕ) (rs : List Row) (i : ℕ) (r : Row) → f r ≡ f (getD rs i none) → map f (set rs i r) ≡ map f rs
+pub map-same : {B : Type 0} (f : Row → B) (rs : List Row) (i : ℕ) (r : Row) → f r ≡ f (getD rs i none) → map f (set rs i r) ≡ map f rs
 map-same f [] i r e = refl
 map-same f (x ∷ rs) zero r e = ap (λ n. n ∷ map f rs) e
 map-same f (x ∷ rs) (suc i) r e = ap (λ ns. f x ∷ ns) (map-same f rs i r e)

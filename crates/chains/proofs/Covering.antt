@@ -60,7 +60,7 @@ module _ (n : ℕ) (mem : List ℕ) (rs : List Row) (free : Chain) (h : Chained 
         one = h .rows i l;
         other = h .spare;
         apart = fits (list mem c ++ list mem free)
-          (λ p. omega (arith, occurs-append p (list mem c) (list mem free), total-at (uses-of mem p) rs i l, h .covers p));
+            (λ p. omega (arith, occurs-append p (list mem c) (list mem free), total-at (uses-of mem p) rs i l, h .covers p));
         few = omega (arith, h .within, h .counts, total-at (λ (r : Row). need (r .len)) rs i l);
       }
 
@@ -107,10 +107,20 @@ module _ (n : ℕ) (mem : List ℕ) (rs : List Row) (free : Chain) (h : Chained 
           within = omega (arith, h .within);
           rows = each-moved r e;
           spare = moved .both .other;
-          covers = λ p. omega (arith, total-set (uses-of mem p) (uses-of new p) rs i r l (other-uses p), h .covers p, moved .same p,
-            ap (λ (x : Chain). occurs p (list new x)) e);
-          counts = omega (arith, total-set (λ (x : Row). need (x .len)) (λ (x : Row). need (x .len)) rs i r l (λ k m z. refl), h .counts, moved .count,
-            ap (λ (x : Chain). x .count) e);
+          covers = λ p. omega (
+            arith,
+            total-set (uses-of mem p) (uses-of new p) rs i r l (other-uses p),
+            h .covers p,
+            moved .same p,
+            ap (λ (x : Chain). occurs p (list new x)) e,
+          );
+          counts = omega (
+            arith,
+            total-set (λ (x : Row). need (x .len)) (λ (x : Row). need (x .len)) rs i r l (λ k m z. refl),
+            h .counts,
+            moved .count,
+            ap (λ (x : Chain). x .count) e,
+          );
         }
 
     -- the row goes, and all its sectors are free

@@ -1,2 +1,5 @@
 pub mod Totals
 pub mod Covering
+pub mod Across
+pub mod Contents
+pub mod Changes

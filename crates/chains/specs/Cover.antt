@@ -33,3 +33,7 @@ Covers n mem rs free = (p : ℕ) → total (λ r. occurs p (list mem (chainOf r)
 -- and they are that many
 abbrev pub Counted : ℕ → List Row → Chain → Type 0
 Counted n rs free = total (λ r. need (r .len)) rs + free .count ≡ n - 1
+
+-- the same row with its bytes in another chain
+abbrev pub placedRow : Row → Chain → Row
+placedRow r c = record { number = r .number; place = c .first; tail = c .last; len = r .len; sound = r .sound; safe = r .safe }

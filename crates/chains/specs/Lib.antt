@@ -1,2 +1,4 @@
 pub mod Cover
 pub mod Seen
+pub mod Found
+pub mod Made
