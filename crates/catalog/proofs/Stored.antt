@@ -1,7 +1,7 @@
 -- The blobs of a store with a catalog.
 use Prim.Native.Nat.{ℕ, _<_}
 use native.Mathlib.Omega.{arith}
-use mathlib.Core.Path.{_≡_, ap}
+use mathlib.Core.Path.{_≡_, ap, _∙_}
 use Rattle.store.specs.declared.keys.Keys.{Keys}
 use Rattle.store.specs.Disk.{Blobs, Disk}
 use Rattle.store.specs.Laws.{AllWhole, Lawful}
@@ -35,3 +35,10 @@ stored-lawful content room c h =
 pub on-disk : (p q : Keys) (xs ys : Blobs) → xs ≡ ys
     → _≡_ {A = Disk} (record { blobs = xs; present = p; saved = q }) (record { blobs = ys; present = p; saved = q })
 on-disk p q xs ys e = ap (λ (zs : Blobs). let d : Disk = record { blobs = zs; present = p; saved = q } in d) e
+
+pub as-disk : {p p′ q q′ : Keys} {xs ys : Blobs} → p ≡ p′ → q ≡ q′ → xs ≡ ys
+    → _≡_ {A = Disk} (record { blobs = xs; present = p; saved = q }) (record { blobs = ys; present = p′; saved = q′ })
+as-disk {p} {p′} {q} {q′} {xs} {ys} a b e =
+    on-disk p q xs ys e
+    ∙ ap (λ (k : Keys). let d : Disk = record { blobs = ys; present = k; saved = q } in d) a
+    ∙ ap (λ (k : Keys). let d : Disk = record { blobs = ys; present = p′; saved = k } in d) b

@@ -124,3 +124,26 @@ module _ (b : ℕ) where
   below-here d (x ∷ xs) (suc i) l h a =
       let t = le-ltb b (x .0) (h 0 (omega arith)) in
       simp t (below-here (Some (x .0)) xs i (omega arith) (λ k m. h (suc k) (omega arith)) (λ m. a (omega arith)))
+
+  -- a number that has been inserted is found -------------------------------------------------------
+
+  pub insert-finds : (xs : Blobs) → find (insert b xs) b ≡ None → ⊥
+  insert-finds [] e = let t = eq-eqb b b refl in let q : Some blank ≡ None = simp t at e in let z : _≡_ {A = ℕ} 0 1 = cc in omega arith
+  insert-finds (x ∷ xs) e =
+      elim (cases-order b (x .0)) [
+        | inl q ↦ let u : ltb b (x .0) ≡ false = le-ltb b (x .0) (omega arith) in
+            let t = eq-eqb b (x .0) q in
+            let v = eq-eqb (x .0) b (sym q) in
+            let n : Some (x .1) ≡ None = simp (u, t, v) at e in
+            let z : _≡_ {A = ℕ} 0 1 = cc in
+            omega arith
+        | inr (inl q) ↦ let u = lt-ltb b (x .0) q in
+            let v = eq-eqb b b refl in
+            let n : Some blank ≡ None = simp (u, v) at e in
+            let z : _≡_ {A = ℕ} 0 1 = cc in
+            omega arith
+        | inr (inr q) ↦ let u : ltb b (x .0) ≡ false = le-ltb b (x .0) (omega arith) in
+            let t : eqb b (x .0) ≡ false = ne-eqb b (x .0) (λ f. omega arith) in
+            let v : eqb (x .0) b ≡ false = ne-eqb (x .0) b (λ f. omega arith) in
+            insert-finds xs (simp (u, t, v) at e)
+      ]

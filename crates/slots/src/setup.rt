@@ -1,0 +1,54 @@
+// A store set up with given contents, as a recovered image or a comparison needs it.
+ghost use mathlib.Core.Path.{_≡_};
+ghost use Rattle.store.specs.Built.{BlobSet, KeySet};
+ghost use Rattle.slots.specs.Seen.{seen};
+ghost use Rattle.slots.specs.Untouched.{Untouched};
+use crate::parts::Slots;
+use catalog::bytes::write_at;
+use catalog::row::Row;
+use store::cause::Cause;
+use store::keys::Key;
+
+impl Slots {
+    // Gives blob b these bytes, of which so many are sound and safe; it need not be there before. No writing call, up or down:
+    // it is refused if the lengths are out of order, or if the bytes or a new blob find no room.
+    pub fn set_blob(&mut self, b: u64, bytes: &[u8], sound: usize, safe: usize) -> Result<(), Cause>
+        ensures set { λ r. ⌜ BlobSet b (record { bytes = now (bytes .entry); sound = sound; safe = safe }) (seen (now (self .entry))) r (seen (now (self .exit))) ⌝ }
+        ensures calls { λ _. ⌜ now (self .exit) .catalog .calls ≡ now (self .entry) .catalog .calls ⌝ }
+        ensures memory { λ _. ⌜ Untouched b (now (self .exit)) (now (self .entry)) ⌝ }
+    {
+        if safe > sound || sound > bytes.len() {
+            return Err(Cause::Range);
+        }
+        if bytes.len() > self.each {
+            return Err(Cause::NoRoom);
+        }
+        if !self.make(b) {
+            return Err(Cause::NoRoom);
+        }
+        let Some(i) = self.find(b) else {
+            return Err(Cause::NoRoom);
+        };
+        let row = self.catalog.table.rows[i];
+        write_at(&mut self.memory, row.place * self.each, bytes);
+        self.catalog.table.change(
+            i,
+            Row {
+                len: bytes.len(),
+                sound,
+                safe,
+                ..row
+            },
+        );
+        Ok(())
+    }
+
+    // Sets a key as it is present and as it is saved.
+    pub fn set_key(&mut self, k: Key, present: Option<u64>, saved: Option<u64>)
+        ensures set { λ _. ⌜ KeySet k present saved (seen (now (self .entry))) (seen (now (self .exit))) ⌝ }
+        ensures calls { λ _. ⌜ now (self .exit) .catalog .calls ≡ now (self .entry) .catalog .calls ⌝ }
+        ensures memory { λ _. ⌜ now (self .exit) .memory ≡ now (self .entry) .memory ⌝ }
+    {
+        self.catalog.set_key(k, present, saved);
+    }
+}

@@ -1,0 +1,75 @@
+// The slot store is a store.
+ghost use Rattle.slots.specs.Seen.{seen};
+use crate::parts::Slots;
+use store::cause::Cause;
+use store::keys::Key;
+use store::restart::Restart;
+use store::store::Store;
+
+pub impl Store for Slots as SlotsStore {
+    ghost view = { seen };
+
+    fn at_or_above(&self, b: u64) -> Result<Option<u64>, Cause> {
+        Slots::at_or_above(self, b)
+    }
+
+    fn at_or_below(&self, b: u64) -> Result<Option<u64>, Cause> {
+        Slots::at_or_below(self, b)
+    }
+
+    fn len(&self, b: u64) -> Result<u64, Cause> {
+        Slots::len(self, b)
+    }
+
+    fn room(&self, b: u64) -> Result<u64, Cause> {
+        Slots::room(self, b)
+    }
+
+    fn key(&self, k: Key) -> Result<Option<u64>, Cause> {
+        Slots::key(self, k)
+    }
+
+    fn scan(&self, b: u64, limit: u64) -> Result<u64, Cause> {
+        Slots::scan(self, b, limit)
+    }
+
+    fn read(&self, b: u64, at: u64, out: &mut [u8]) -> Result<(), Cause> {
+        Slots::read(self, b, at, out)
+    }
+
+    fn open(&mut self, b: u64) -> Result<(), Cause> {
+        Slots::open(self, b)
+    }
+
+    fn append(&mut self, b: u64, bytes: &[u8]) -> Result<(), Cause> {
+        Slots::append(self, b, bytes)
+    }
+
+    fn truncate(&mut self, b: u64, n: u64) -> Result<(), Cause> {
+        Slots::truncate(self, b, n)
+    }
+
+    fn sync(&mut self, b: u64) -> Result<(), Cause> {
+        Slots::sync(self, b)
+    }
+
+    fn remove(&mut self, b: u64) -> Result<(), Cause> {
+        Slots::remove(self, b)
+    }
+
+    fn put(&mut self, k: Key, v: u64) -> Result<(), Cause> {
+        Slots::put(self, k, v)
+    }
+
+    fn drop_key(&mut self, k: Key) -> Result<(), Cause> {
+        Slots::drop_key(self, k)
+    }
+
+    fn sync_keys(&mut self) -> Result<(), Cause> {
+        Slots::sync_keys(self)
+    }
+
+    fn restart(&mut self, how: Restart) {
+        Slots::restart(self, how)
+    }
+}
