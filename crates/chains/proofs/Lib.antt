@@ -3,3 +3,4 @@ pub mod Covering
 pub mod Across
 pub mod Contents
 pub mod Changes
+pub mod Settles

@@ -2,3 +2,4 @@ pub mod Cover
 pub mod Seen
 pub mod Found
 pub mod Made
+pub mod Settled

@@ -1,5 +1,8 @@
 // A store of 64-byte sectors in chains.
+pub mod again;
 pub mod ask;
 pub mod chains;
+pub mod new;
 mod steps;
+pub mod stores;
 pub mod write;
