@@ -22,3 +22,14 @@ apart-as a b c d p q h = subst (λ (m : List ℕ). Apart m (list m c)) (sym p) (
 
 pub alone : (mem : List ℕ) (a b : Chain) → Both mem a b → Apart mem (list mem a)
 alone mem a b h = apart-part mem (list mem a) (list mem a ++ list mem b) (h .apart) (λ p. omega (arith, occurs-append p (list mem a) (list mem b)))
+
+-- one move after another
+pub moved-then : (mem mid new : List ℕ) (c f d g e h : Chain) → Moved mem c f mid d g → Moved mid d g new e h → Moved mem c f new e h
+moved-then mem mid new c f d g e h a b =
+    record {
+      both = b .both;
+      count = b .count ∙ a .count;
+      same = λ p. b .same p ∙ a .same p;
+      nexts = λ q z. b .nexts q (a .same q ∙ z) ∙ a .nexts q z;
+      payloads = λ q z. b .payloads q (a .same q ∙ z) ∙ a .payloads q z;
+    }

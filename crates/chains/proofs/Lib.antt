@@ -4,3 +4,4 @@ pub mod Across
 pub mod Contents
 pub mod Changes
 pub mod Settles
+pub mod Images

@@ -3,6 +3,7 @@ pub mod again;
 pub mod ask;
 pub mod chains;
 pub mod new;
+pub mod setup;
 mod steps;
 pub mod stores;
 pub mod write;

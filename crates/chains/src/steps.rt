@@ -84,3 +84,17 @@ pub fn copy(memory: &Vec<u8>, free: Chain, row: Row, at: usize, out: &mut [u8])
     let chain = chain_of(row);
     read(memory.as_slice(), chain, at, out);
 }
+
+// Other bytes in the place of all that were there.
+pub fn replace(memory: &mut Vec<u8>, free: &mut Chain, row: Row, bytes: &[u8]) -> Chain
+    requires both { ⌜ Both (vec-items (now memory)) (chainOf row) (now free) ⌝ }
+    requires room { ⌜ length (now bytes) ≤ 60 * (need (row .len) + now free .count) ⌝ }
+    ensures moved { λ r. ⌜ Moved (vec-items (now (memory .entry))) (chainOf row) (now (free .entry)) (vec-items (now (memory .exit))) r (now (free .exit)) ⌝ }
+    ensures count { λ r. ⌜ r .count ≡ need (length (now (bytes .entry))) ⌝ }
+    ensures bytes { λ r. ⌜ take (length (now (bytes .entry))) (joint (vec-items (now (memory .exit))) r) ≡ now (bytes .entry) ⌝ }
+    ensures long { λ _. ⌜ vec-len (now (memory .exit)) ≡ vec-len (now (memory .entry)) ⌝ }
+{
+    let chain = shorten(memory, free, row, 0);
+    let empty = Row { len: 0, ..row };
+    extend(memory, free, placed(empty, chain), bytes)
+}
