@@ -13,6 +13,9 @@ pub moved-as : (a b : List ℕ) (c d : Chain) (new old : List ℕ) (f e g : Chai
 moved-as a b c d new old f e g p q r h =
     subst (λ (m : List ℕ). Moved b d f m e g) r (subst (λ (x : Chain). Moved b x f new e g) q (subst (λ (m : List ℕ). Moved m c f new e g) p h))
 
+pub moved-into : (a b : List ℕ) (c f : Chain) (new : List ℕ) (d e g : Chain) → a ≡ b → d ≡ e → Moved a c f new d g → Moved b c f new e g
+moved-into a b c f new d e g p q h = subst (λ (x : Chain). Moved b c f new x g) q (subst (λ (m : List ℕ). Moved m c f new d g) p h)
+
 pub filled-as : (a b : List ℕ) (c d : Chain) (new old : List ℕ) (at : ℕ) (bs : List ℕ) → a ≡ b → c ≡ d → new ≡ old → Filled a c at bs new → Filled b d at bs old
 filled-as a b c d new old at bs p q r h =
     subst (λ (m : List ℕ). Filled b d at bs m) r (subst (λ (x : Chain). Filled b x at bs new) q (subst (λ (m : List ℕ). Filled m c at bs new) p h))

@@ -5,3 +5,4 @@ pub mod Contents
 pub mod Changes
 pub mod Settles
 pub mod Images
+pub mod Outside

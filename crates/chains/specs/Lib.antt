@@ -3,3 +3,4 @@ pub mod Seen
 pub mod Found
 pub mod Made
 pub mod Settled
+pub mod Untouched

@@ -1,10 +1,8 @@
 -- What a call that changes blobs alone leaves.
 use mathlib.Core.Path.{_≡_}
-use Rattle.std.specs.Of.Vec.{vec-len}
 use Rattle.chains.specs.declared.chains.Chains.{Chains}
 
 pub record SameBut (s t : Chains) : Type 0 where
-  pub memory : vec-len (t .memory) ≡ vec-len (s .memory)
   pub sectors : t .sectors ≡ s .sectors
   pub count : t .catalog .table .count ≡ s .catalog .table .count
   pub present : t .catalog .present ≡ s .catalog .present

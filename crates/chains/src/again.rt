@@ -1,12 +1,12 @@
 // Restart.
-ghost use Prim.Native.Nat.{_<_};
+ghost use Prim.Native.Nat.{ℕ, _<_};
 ghost use mathlib.Core.Path.{_≡_};
 ghost use lib.ListN.{getD, set};
-ghost use Rattle.std.specs.Of.Vec.{vec-len};
 ghost use Rattle.store.specs.Disk.{Restarted, blank};
 ghost use Rattle.store.specs.Left.{left, leftEntry};
 ghost use Rattle.chains.specs.Seen.{seen, blobs};
 ghost use Rattle.chains.specs.Settled.{SameBut};
+ghost use Rattle.chains.specs.Untouched.{UntouchedBut};
 use crate::chains::Chains;
 use crate::steps::blot;
 use crate::steps::placed;
@@ -21,6 +21,7 @@ impl Chains {
         requires { ⌜ i < now self .catalog .table .count ⌝ }
         ensures blobs { λ _. ⌜ blobs (now (self .exit)) ≡ set (blobs (now (self .entry))) i (leftEntry how (getD (blobs (now (self .entry))) i (0, blank))) ⌝ }
         ensures same { λ _. ⌜ SameBut (now (self .entry)) (now (self .exit)) ⌝ }
+        ensures memory { λ _. ⌜ UntouchedBut (λ k. k ≡ i) (now (self .entry)) (now (self .exit)) ⌝ }
     {
         let row = self.row(i);
         let sound = row.safe + (row.sound - row.safe).min(how.keep as usize);
@@ -49,12 +50,12 @@ impl Chains {
         }
     }
 
-    // The power is back. Of each blob as much stays as `how` says.
+    // The power is back. Of each blob as much stays as `how` says, and no sector outside the chains changes.
     pub fn restart(&mut self, how: Restart)
         ensures restarted { λ _. ⌜ Restarted (seen (now (self .entry))) (seen (now (self .exit))) ⌝ }
         ensures left { λ _. ⌜ blobs (now (self .exit)) ≡ left how (blobs (now (self .entry))) ⌝ }
         ensures calls { λ _. ⌜ now (self .exit) .catalog .calls ≡ how .calls ⌝ }
-        ensures memory { λ _. ⌜ vec-len (now (self .exit) .memory) ≡ vec-len (now (self .entry) .memory) ⌝ }
+        ensures memory { λ _. ⌜ UntouchedBut (λ _. Unit {0}) (now (self .entry)) (now (self .exit)) ⌝ }
     {
         for i in 0..self.catalog.table.count {
             self.settle(i, how);

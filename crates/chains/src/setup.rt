@@ -1,10 +1,10 @@
 // A store set up with given contents, as a recovered image or a comparison needs it.
 ghost use Prim.Native.Nat.{_+_};
 ghost use mathlib.Core.Path.{_≡_};
-ghost use Rattle.std.specs.Of.Vec.{vec-len};
 ghost use Rattle.store.specs.Built.{BlobSet, KeySet, bytesThere};
 ghost use Rattle.store.specs.Disk.{find};
 ghost use Rattle.chains.specs.Seen.{seen, blobs, roomIn};
+ghost use Rattle.chains.specs.Untouched.{Untouched};
 use crate::chains::Chains;
 use crate::steps::placed;
 use crate::steps::replace;
@@ -28,7 +28,7 @@ impl Chains {
     pub fn set_blob(&mut self, b: u64, bytes: &[u8], sound: usize, safe: usize) -> Result<(), Cause>
         ensures set { λ r. ⌜ BlobSet b (record { bytes = now (bytes .entry); sound = sound; safe = safe }) (seen (now (self .entry))) r (seen (now (self .exit))) ⌝ }
         ensures calls { λ _. ⌜ now (self .exit) .catalog .calls ≡ now (self .entry) .catalog .calls ⌝ }
-        ensures memory { λ _. ⌜ vec-len (now (self .exit) .memory) ≡ vec-len (now (self .entry) .memory) ⌝ }
+        ensures memory { λ _. ⌜ Untouched b (now (self .exit)) (now (self .entry)) ⌝ }
     {
         if safe > sound || sound > bytes.len() {
             return Err(Cause::Range);

@@ -1,11 +1,11 @@
 // The writing calls. Each sees first to the power, then to the other causes, and then writes.
 ghost use mathlib.Core.Path.{_≡_};
-ghost use Rattle.std.specs.Of.Vec.{vec-len};
 ghost use Rattle.store.specs.Built.{Counts};
 ghost use Rattle.store.specs.Disk.{Wrote};
 ghost use Rattle.store.specs.Disk.{Open, Append, Truncate, Sync, Remove, Put, DropKey, SyncKeys};
 ghost use Rattle.chains.specs.Made.{MadeRow};
 ghost use Rattle.chains.specs.Seen.{seen};
+ghost use Rattle.chains.specs.Untouched.{Untouched};
 use crate::chains::Chains;
 use crate::steps::extend;
 use crate::steps::placed;
@@ -49,7 +49,7 @@ impl Chains {
     pub fn append(&mut self, b: u64, bytes: &[u8]) -> Result<(), Cause>
         ensures wrote { λ r. ⌜ Wrote (Append b (now (bytes .entry))) (seen (now (self .entry))) r (seen (now (self .exit))) ⌝ }
         ensures counts { λ r. ⌜ Counts (seen (now (self .entry))) (now (self .entry) .catalog .calls) r (seen (now (self .exit))) (now (self .exit) .catalog .calls) ⌝ }
-        ensures memory { λ _. ⌜ vec-len (now (self .exit) .memory) ≡ vec-len (now (self .entry) .memory) ⌝ }
+        ensures memory { λ _. ⌜ Untouched b (now (self .entry)) (now (self .exit)) ⌝ }
     {
         if !self.catalog.up || self.catalog.calls == 0 {
             return self.catalog.stop();
@@ -74,7 +74,7 @@ impl Chains {
     pub fn truncate(&mut self, b: u64, n: u64) -> Result<(), Cause>
         ensures wrote { λ r. ⌜ Wrote (Truncate b n) (seen (now (self .entry))) r (seen (now (self .exit))) ⌝ }
         ensures counts { λ r. ⌜ Counts (seen (now (self .entry))) (now (self .entry) .catalog .calls) r (seen (now (self .exit))) (now (self .exit) .catalog .calls) ⌝ }
-        ensures memory { λ _. ⌜ vec-len (now (self .exit) .memory) ≡ vec-len (now (self .entry) .memory) ⌝ }
+        ensures memory { λ _. ⌜ Untouched b (now (self .entry)) (now (self .exit)) ⌝ }
     {
         if !self.catalog.up || self.catalog.calls == 0 {
             return self.catalog.stop();
@@ -107,7 +107,7 @@ impl Chains {
     pub fn remove(&mut self, b: u64) -> Result<(), Cause>
         ensures wrote { λ r. ⌜ Wrote (Remove b) (seen (now (self .entry))) r (seen (now (self .exit))) ⌝ }
         ensures counts { λ r. ⌜ Counts (seen (now (self .entry))) (now (self .entry) .catalog .calls) r (seen (now (self .exit))) (now (self .exit) .catalog .calls) ⌝ }
-        ensures memory { λ _. ⌜ vec-len (now (self .exit) .memory) ≡ vec-len (now (self .entry) .memory) ⌝ }
+        ensures memory { λ _. ⌜ Untouched b (now (self .entry)) (now (self .exit)) ⌝ }
     {
         if !self.catalog.up || self.catalog.calls == 0 {
             return self.catalog.stop();

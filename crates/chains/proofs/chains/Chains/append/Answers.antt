@@ -20,6 +20,7 @@ use Rattle.chains.specs.Seen.{contentOf, roomIn, blobIn}
 use Rattle.chains.specs.Found.{rowAt, Held}
 use Rattle.chains.proofs.Covering.{owed}
 use Rattle.chains.proofs.Contents.{stands}
+use Rattle.chains.proofs.Outside.{unmoved, outside-moved}
 use Rattle.chains.proofs.Changes.{Becomes, becomes, placed-chain, placed-bytes, grown-blob}
 use Rattle.chains.proofs.chains.Chains.append.Needs as need
 
@@ -27,7 +28,7 @@ pub returns-then-not-self : need.returns-then-not-self
 returns-then-not-self c =
     let s = c .args .self .now in
     let h = c .stop .ensures .called (Append (c .args .b) (c .args .bytes .now)) (contentOf s) (roomIn (s .sectors)) (stands s) in
-    record { wrote = h .0; counts = h .1; memory = refl }
+    record { wrote = h .0; counts = h .1; memory = unmoved _ _ _ refl }
 
 -- bytes added to blob b, in row i
 grows : (s : Chains) (b i : ℕ) (bs : List ℕ) (new : List ℕ) (u : Table) (d g : Chain) (r : Row) → Held b s i → length new ≡ length (vec-items (s .memory))
@@ -72,5 +73,5 @@ returns c =
         omega (arith, b .room _ (h .found), length-append (blobIn s (rowAt s (c .in-Some .i)) .bytes) bs),
       );
       counts = omega arith;
-      memory = x .ensures .long;
+      memory = outside-moved _ s _ (c .in-Some .i) (x .result) (x .last .free) (h .within) (h .here .number) (x .ensures .long) (x .ensures .moved);
     }

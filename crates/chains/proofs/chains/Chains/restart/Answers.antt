@@ -14,6 +14,7 @@ use Rattle.catalog.proofs.Stored.{stored-whole}
 use Rattle.catalog.proofs.Lookup.{length-blobs}
 use Rattle.chains.specs.Seen.{contentOf, blobIn, blobs, seen}
 use Rattle.chains.proofs.Contents.{stands}
+use Rattle.chains.proofs.Outside.{then-settled}
 use Rattle.chains.proofs.chains.Chains.restart.Needs as need
 
 pub loop-i-again : need.loop-i-again
@@ -28,7 +29,8 @@ loop-i-again c =
     let x = getD (blobs t) i (0, blank) in (
       c .settle .ensures .blobs
           ∙ map-over-more (leftEntry (c .args .how)) (blobs s) (blobs t) i x m (c .loop-i .inv .0) (getD-default (blobs t) i (0, blank) x n),
-      record { memory = b .memory ∙ a .memory; sectors = b .sectors ∙ a .sectors; count = b .count ∙ a .count; present = b .present ∙ a .present; saved = b .saved ∙ a .saved },
+      record { sectors = b .sectors ∙ a .sectors; count = b .count ∙ a .count; present = b .present ∙ a .present; saved = b .saved ∙ a .saved },
+      then-settled s t (c .settle .last .self) i a (c .loop-i .inv .2) (c .settle .ensures .memory),
     )
 
 pub returns : need.returns
@@ -49,5 +51,5 @@ returns c =
       restarted = restarts (c .args .how) (seen s) _ (stored-whole (contentOf s) (s .catalog .table) (stands s)) (r .up) refl f (r .saved ∙ a .saved) (r .present ∙ a .saved);
       left = f;
       calls = r .calls;
-      memory = a .memory;
+      memory = record { long = c .loop-i .inv .2 .long; nexts = c .loop-i .inv .2 .nexts; payloads = c .loop-i .inv .2 .payloads };
     }

@@ -2,16 +2,17 @@ use native.Mathlib.Omega.{arith}
 use mathlib.Core.Path.{_≡_, refl, sym, ap, _∙_}
 use mathlib.Core.List.{List}
 use Prim.Native.Nat.{ℕ, _+_, _*_, _/_, _≤_}
-use lib.ListN.{length, set, take}
+use lib.ListN.{length, getD, set, take}
 use Rattle.std.specs.Of.Vec.{vec-items, vec-len}
+use Rattle.std.proofs.shelf.Lists.{getD-set-same}
 use Rattle.std.proofs.shelf.Tests.{le-ltb}
 use Rattle.store.specs.Built.{bytesThere}
 use Rattle.store.specs.Disk.{Blob, Blobs, find, insert, change}
 use Rattle.store.proofs.Places.{insert-finds}
 use Rattle.catalog.specs.declared.row.Row.{Row}
 use Rattle.catalog.specs.declared.table.Table.{Table}
-use Rattle.catalog.specs.Rows.{sized}
-use Rattle.catalog.specs.Blobs.{live}
+use Rattle.catalog.specs.Rows.{none, sized}
+use Rattle.catalog.specs.Blobs.{live, rowAt as rowNow}
 use Rattle.catalog.proofs.Lookup.{rising-blobs}
 use Rattle.catalog.proofs.Stored.{as-disk}
 use Rattle.sectors.specs.declared.chain.Chain.{Chain}
@@ -21,7 +22,9 @@ use Rattle.chains.specs.declared.chains.Chains.{Chains}
 use Rattle.chains.specs.Cover.{usable, chainOf, placedRow}
 use Rattle.chains.specs.Seen.{blobIn, blobs, roomIn}
 use Rattle.chains.specs.Found.{rowAt, Held}
+use Rattle.chains.proofs.Across.{moved-into}
 use Rattle.chains.proofs.Covering.{owed}
+use Rattle.chains.proofs.Outside.{outside-back}
 use Rattle.chains.proofs.Changes.{Becomes, becomes, placed-chain}
 use Rattle.chains.proofs.Images.{opened-bytes, limit-is, set-blob-is}
 use Rattle.chains.proofs.chains.Chains.set_blob.Needs as need
@@ -88,9 +91,18 @@ returns c =
     let e = b .blobs ∙ ap (change (λ _. y) (c .args .b)) (m .2) in
     let p = le-ltb (c .args .sound) (c .args .safe) (omega arith) in
     let q = le-ltb (length bs) (c .args .sound) (omega arith) in
+    let h = c .in-Some .ensures tt in
+    let v = sized (rowAt t (c .in-Some .i)) (length bs) (c .args .sound) (c .args .safe) in
+    let at : rowNow u (c .in-Some .i) ≡ placedRow v (x .result) =
+    ap (λ (zs : List Row). getD zs (c .in-Some .i) none) (c .change .ensures .rows)
+    ∙ getD-set-same (t .catalog .table .rows) (c .in-Some .i) (c .placed .result) none (omega (arith, h .within, t .catalog .table .few, t .catalog .table .long))
+    ∙ c .placed .ensures in
     let w = le-ltb (roomIn (s .sectors) (blobs s) (c .args .b) + bytesThere (find (blobs s) (c .args .b))) (length bs) (omega (arith, c .limit .ensures)) in
     record {
       set = (simp (p, q, w, m .1), as-disk (m .0 .present) (m .0 .saved) e, m .0 .up, refl);
       calls = m .0 .calls;
-      memory = x .ensures .long ∙ ap vec-len (m .0 .memory);
+      memory = outside-back _ _ s (c .in-Some .i) (chainOf (rowAt t (c .in-Some .i))) (t .free) (omega (arith, c .change .ensures .count, h .within))
+        (ap (λ (z : Row). z .number) at ∙ h .here .number) (sym (x .ensures .long ∙ ap vec-len (m .0 .memory)))
+        (moved-into (vec-items (t .memory)) (vec-items (s .memory)) (chainOf (rowAt t (c .in-Some .i))) (t .free) (vec-items new) (x .result) (chainOf (rowNow u (c .in-Some .i))) (x .last .free)
+          (ap (λ z. vec-items z) (m .0 .memory)) (sym (ap chainOf at ∙ placed-chain v (x .result) (x .ensures .count))) (x .ensures .moved));
     }

@@ -16,7 +16,8 @@ use Rattle.sectors.specs.Chains.{joint, Moved, Filled}
 use Rattle.chains.specs.declared.chains.Chains.{Chains}
 use Rattle.chains.specs.Cover.{usable, chainOf, placedRow}
 use Rattle.chains.specs.Found.{rowAt, InUse}
-use Rattle.chains.proofs.Covering.{owed}
+use Rattle.chains.proofs.Covering.{owed, moved-filled}
+use Rattle.chains.proofs.Outside.{outside-moved}
 use Rattle.chains.proofs.Settles.{Settled, settled-cut, settled-fill}
 use Rattle.chains.proofs.chains.Chains.settle.Needs as need
 
@@ -88,7 +89,9 @@ returns-in-Cut c =
     (x .result) (x .last .free) (c .placed .result) (c .in-Cut .is) (x .ensures .moved) (x .ensures .count) (x .ensures .bytes) (c .placed .ensures) (c .change .ensures .rows) in
     record {
       blobs = t .blobs;
-      same = record { memory = c .shorten-chain .ensures .long; sectors = refl; count = c .change .ensures .count; present = refl; saved = refl };
+      same = record { sectors = refl; count = c .change .ensures .count; present = refl; saved = refl };
+      memory = outside-moved _ s _ (c .args .i) (x .result) (x .last .free) (c .pre) refl (x .ensures .long)
+        (subst (λ (y : Row). Moved (vec-items (s .memory)) (chainOf y) (s .free) (vec-items new) (x .result) (x .last .free)) (c .row-row .ensures .is) (x .ensures .moved));
     }
 
 pub returns-in-Fill : need.returns-in-Fill
@@ -103,5 +106,8 @@ returns-in-Fill c =
     (c .in-Fill .value) (c .in-Fill .is) (x .ensures .filled) (c .change-in-Fill .ensures .rows) in
     record {
       blobs = t .blobs;
-      same = record { memory = c .blot .ensures .long; sectors = refl; count = c .change-in-Fill .ensures .count; present = refl; saved = refl };
+      same = record { sectors = refl; count = c .change-in-Fill .ensures .count; present = refl; saved = refl };
+      memory = outside-moved _ s _ (c .args .i) (chainOf r) (s .free) (c .pre) refl (x .ensures .long)
+        (subst (λ (y : Row). Moved (vec-items (s .memory)) (chainOf y) (s .free) (vec-items new) (chainOf r) (s .free)) (c .row-row .ensures .is)
+          (moved-filled (vec-items (s .memory)) (vec-items new) (chainOf r) (s .free) _ _ (omega (arith, s .memory .ok, new .ok, x .ensures .long)) (c .row-row .ensures .both) (x .ensures .filled)));
     }

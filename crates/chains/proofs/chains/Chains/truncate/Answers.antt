@@ -21,6 +21,7 @@ use Rattle.chains.specs.Seen.{contentOf, roomIn, blobIn}
 use Rattle.chains.specs.Found.{rowAt, Held}
 use Rattle.chains.proofs.Covering.{owed}
 use Rattle.chains.proofs.Contents.{stands}
+use Rattle.chains.proofs.Outside.{unmoved, outside-moved}
 use Rattle.chains.proofs.Changes.{Becomes, becomes, same-found, placed-chain, cut-blob}
 use Rattle.chains.proofs.chains.Chains.truncate.Needs as need
 
@@ -28,7 +29,7 @@ pub returns-then-not-self : need.returns-then-not-self
 returns-then-not-self c =
     let s = c .args .self .now in
     let h = c .stop .ensures .called (Truncate (c .args .b) (c .args .n)) (contentOf s) (roomIn (s .sectors)) (stands s) in
-    record { wrote = h .0; counts = h .1; memory = refl }
+    record { wrote = h .0; counts = h .1; memory = unmoved _ _ _ refl }
 
 -- blob b, in row i, cut to n bytes
 cuts : (s : Chains) (b i n : ℕ) (new : List ℕ) (u : Table) (d g : Chain) (r : Row) → Held b s i → n ≤ rowAt s i .len → length new ≡ length (vec-items (s .memory))
@@ -75,5 +76,5 @@ returns c =
             omega (arith, b .room y f, length-take-le n (y .bytes) (omega arith)),
       );
       counts = omega arith;
-      memory = x .ensures .long;
+      memory = outside-moved _ s _ (c .in-Some .i) (x .result) (x .last .free) (h .within) (h .here .number) (x .ensures .long) (x .ensures .moved);
     }
