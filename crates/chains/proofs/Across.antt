@@ -6,7 +6,7 @@ use mathlib.Core.List.{List, _++_}
 use Rattle.store.proofs.Occurs.{occurs-append}
 use Rattle.sectors.specs.declared.chain.Chain.{Chain}
 use Rattle.sectors.specs.Sectors.{Apart}
-use Rattle.sectors.specs.Chains.{list, Both, Moved, Filled}
+use Rattle.sectors.specs.Chains.{list, Both, Relinked, Moved, Filled}
 use Rattle.sectors.proofs.Paths.{apart-part}
 
 pub moved-as : (a b : List ℕ) (c d : Chain) (new old : List ℕ) (f e g : Chain) → a ≡ b → c ≡ d → new ≡ old → Moved a c f new e g → Moved b d f old e g
@@ -15,6 +15,9 @@ moved-as a b c d new old f e g p q r h =
 
 pub moved-into : (a b : List ℕ) (c f : Chain) (new : List ℕ) (d e g : Chain) → a ≡ b → d ≡ e → Moved a c f new d g → Moved b c f new e g
 moved-into a b c f new d e g p q h = subst (λ (x : Chain). Moved b c f new x g) q (subst (λ (m : List ℕ). Moved m c f new d g) p h)
+
+pub relinked-as : (a b new old : List ℕ) (c : Chain) → a ≡ b → new ≡ old → Relinked a (list new c) new → Relinked b (list old c) old
+relinked-as a b new old c p q h = subst (λ (m : List ℕ). Relinked b (list m c) m) q (subst (λ (m : List ℕ). Relinked m (list new c) new) p h)
 
 pub filled-as : (a b : List ℕ) (c d : Chain) (new old : List ℕ) (at : ℕ) (bs : List ℕ) → a ≡ b → c ≡ d → new ≡ old → Filled a c at bs new → Filled b d at bs old
 filled-as a b c d new old at bs p q r h =

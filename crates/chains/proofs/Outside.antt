@@ -57,18 +57,19 @@ unused : (s : Chains) (q : ℕ) → Outside (λ _. Unit {0}) s q → once (s .se
 unused s q o =
     let t = s .catalog .table in
     let z = total-none (λ r. occurs q (list (vec-items (s .memory)) (chainOf r))) (live t) (λ k l.
-      let m : k < t .count = omega (arith, length-rows t) in
-      ap (λ (r : Row). occurs q (list (vec-items (s .memory)) (chainOf r))) (row-live t k m) ∙ o .1 k m tt) in
+    let m : k < t .count = omega (arith, length-rows t) in
+    ap (λ (r : Row). occurs q (list (vec-items (s .memory)) (chainOf r))) (row-live t k m) ∙ o .1 k m tt) in
     omega (arith, s .covers q, o .0)
 
 used-not : (P : ℕ → Type 0) (s : Chains) (q : ℕ) → once (s .sectors) q ≡ 0 → Outside P s q
 used-not P s q z =
-    let t = s .catalog .table in
-    (omega (arith, s .covers q),
-    λ i l p.
-      let h = λ (r : Row). occurs q (list (vec-items (s .memory)) (chainOf r)) in
-      let m : i < length (live t) = omega (arith, length-rows t) in
-      omega (arith, s .covers q, total-at h (live t) i m, ap h (row-live t i l)))
+    let t = s .catalog .table in (
+      omega (arith, s .covers q),
+      λ i l p.
+          let h = λ (r : Row). occurs q (list (vec-items (s .memory)) (chainOf r)) in
+          let m : i < length (live t) = omega (arith, length-rows t) in
+          omega (arith, s .covers q, total-at h (live t) i m, ap h (row-live t i l)),
+    )
 
 -- after the calls that led to t, one more
 pub then-settled : (s t u : Chains) (i : ℕ) → SameBut s t → UntouchedBut (λ _. Unit {0}) s t → UntouchedBut (λ k. k ≡ i) t u → UntouchedBut (λ _. Unit {0}) s u

@@ -6,7 +6,7 @@ ghost use Rattle.std.specs.Of.Vec.{vec-len, vec-items};
 ghost use Rattle.std.specs.Results.{Cases};
 ghost use Rattle.store.specs.Disk.{New};
 ghost use Rattle.store.specs.Occurs.{occurs};
-ghost use Rattle.sectors.specs.Chains.{list, Stands};
+ghost use Rattle.sectors.specs.Chains.{list, Stands, Relinked};
 ghost use Rattle.sectors.specs.Sectors.{once};
 ghost use Rattle.chains.specs.Cover.{usable};
 ghost use Rattle.chains.specs.Seen.{seen};
@@ -46,6 +46,7 @@ fn link(memory: &mut Vec<u8>, n: usize) -> Chain
     ensures stands { λ r. ⌜ Stands (vec-items (now (memory .exit))) r ⌝ }
     ensures all { λ r. ⌜ ((p : ℕ) → occurs p (list (vec-items (now (memory .exit))) r) ≡ once n p) ⌝ }
     ensures count { λ r. ⌜ r .count ≡ n - 1 ⌝ }
+    ensures relinked { λ r. ⌜ Relinked (vec-items (now (memory .entry))) (list (vec-items (now (memory .exit))) r) (vec-items (now (memory .exit))) ⌝ }
     ensures long { λ _. ⌜ vec-len (now (memory .exit)) ≡ vec-len (now (memory .entry)) ⌝ }
 {
     link_all(memory.as_mut_slice(), n)
@@ -67,9 +68,11 @@ impl Chains {
     }
 
     // A new store, of which `calls` writing calls succeed before the power goes. On an unfit memory no blob has room.
+    // Only the next numbers of the sectors in use are written.
     pub fn new(mut memory: Vec<u8>, calls: u64) -> Chains
         ensures fresh { λ r. ⌜ New (seen r) ⌝ }
-        ensures memory { λ r. ⌜ vec-len (r .memory) ≡ vec-len memory ⌝ }
+        ensures memory { λ r. ⌜ Relinked (vec-items memory) (list (vec-items (r .memory)) (r .free)) (vec-items (r .memory)) ⌝ }
+        ensures long { λ r. ⌜ vec-len (r .memory) ≡ vec-len memory ⌝ }
         ensures sectors { λ r. ⌜ r .sectors ≡ usable (vec-len memory / 64) ⌝ }
         ensures calls { λ r. ⌜ r .catalog .calls ≡ calls ⌝ }
     {

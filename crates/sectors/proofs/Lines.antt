@@ -17,6 +17,17 @@ use Rattle.sectors.proofs.Paths.{after-more}
 abbrev pub Rises : (ℕ → ℕ) → ℕ → ℕ → Type 0
 Rises f k s = (q : ℕ) → s ≤ q → q + 1 < s + k → f q ≡ q + 1
 
+-- a number that is not counted
+pub once-none : (n q : ℕ) → once n q ≡ 0 → (q ≡ 0) ⊎ (n ≤ q)
+once-none n q e =
+    elim (cases-lt 0 q) [
+      | inl a ↦ elim (cases-lt q n) [
+        | inl b ↦ let t = lt-ltb 0 q a in let u = lt-ltb q n b in let z : _≡_ {A = ℕ} 1 0 = simp (t, u) at e in absurd (omega arith)
+        | inr b ↦ inr b
+      ]
+      | inr a ↦ inl (omega arith)
+    ]
+
 module _ (f : ℕ → ℕ) where
   rises-rest : (k s : ℕ) → Rises f (suc k) s → Rises f k (s + 1)
   rises-rest k s h q l m = h q (omega arith) (omega arith)

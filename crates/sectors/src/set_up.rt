@@ -4,7 +4,7 @@ ghost use mathlib.Core.Path.{_≡_};
 ghost use lib.ListN.{length};
 ghost use Rattle.store.specs.Occurs.{occurs};
 ghost use Rattle.sectors.specs.Sectors.{once};
-ghost use Rattle.sectors.specs.Chains.{list, Stands};
+ghost use Rattle.sectors.specs.Chains.{list, Stands, Relinked};
 use crate::chain::Chain;
 use crate::sector::set_next;
 
@@ -14,6 +14,7 @@ pub fn link_all(memory: &mut [u8], n: usize) -> Chain
     ensures stands { λ r. ⌜ Stands (now (memory .exit)) r ⌝ }
     ensures all { λ r. ⌜ ((p : ℕ) → occurs p (list (now (memory .exit)) r) ≡ once n p) ⌝ }
     ensures count { λ r. ⌜ r .count ≡ n - 1 ⌝ }
+    ensures relinked { λ r. ⌜ Relinked (now (memory .entry)) (list (now (memory .exit)) r) (now (memory .exit)) ⌝ }
 {
     if n < 2 {
         return Chain::NONE;

@@ -5,6 +5,7 @@ use Prim.Native.Nat.{ℕ}
 use Rattle.std.proofs.shelf.Lists.{refilled-is}
 use Rattle.store.specs.Occurs.{occurs}
 use Rattle.sectors.specs.Chains.{list, Stands}
+use Rattle.chains.proofs.Across.{relinked-as}
 use Rattle.chains.proofs.new.link.Needs as need
 
 pub returns : need.returns
@@ -15,5 +16,6 @@ returns c =
       stands = subst (λ (m : List ℕ). Stands m (c .link-all .result)) (sym w) (e .stands);
       all = λ p. ap (λ (m : List ℕ). occurs p (list m (c .link-all .result))) w ∙ e .all p;
       count = e .count;
+      relinked = relinked-as _ _ _ _ (c .link-all .result) (c .as-mut-slice .ensures .value) (sym w) (e .relinked);
       long = refl;
     }

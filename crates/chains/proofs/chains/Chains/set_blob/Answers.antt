@@ -102,7 +102,7 @@ returns c =
       set = (simp (p, q, w, m .1), as-disk (m .0 .present) (m .0 .saved) e, m .0 .up, refl);
       calls = m .0 .calls;
       memory = outside-back _ _ s (c .in-Some .i) (chainOf (rowAt t (c .in-Some .i))) (t .free) (omega (arith, c .change .ensures .count, h .within))
-        (ap (λ (z : Row). z .number) at ∙ h .here .number) (sym (x .ensures .long ∙ ap vec-len (m .0 .memory)))
-        (moved-into (vec-items (t .memory)) (vec-items (s .memory)) (chainOf (rowAt t (c .in-Some .i))) (t .free) (vec-items new) (x .result) (chainOf (rowNow u (c .in-Some .i))) (x .last .free)
+          (ap (λ (z : Row). z .number) at ∙ h .here .number) (sym (x .ensures .long ∙ ap vec-len (m .0 .memory)))
+          (moved-into (vec-items (t .memory)) (vec-items (s .memory)) (chainOf (rowAt t (c .in-Some .i))) (t .free) (vec-items new) (x .result) (chainOf (rowNow u (c .in-Some .i))) (x .last .free)
           (ap (λ z. vec-items z) (m .0 .memory)) (sym (ap chainOf at ∙ placed-chain v (x .result) (x .ensures .count))) (x .ensures .moved));
     }

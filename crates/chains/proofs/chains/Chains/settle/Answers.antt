@@ -91,7 +91,7 @@ returns-in-Cut c =
       blobs = t .blobs;
       same = record { sectors = refl; count = c .change .ensures .count; present = refl; saved = refl };
       memory = outside-moved _ s _ (c .args .i) (x .result) (x .last .free) (c .pre) refl (x .ensures .long)
-        (subst (λ (y : Row). Moved (vec-items (s .memory)) (chainOf y) (s .free) (vec-items new) (x .result) (x .last .free)) (c .row-row .ensures .is) (x .ensures .moved));
+          (subst (λ (y : Row). Moved (vec-items (s .memory)) (chainOf y) (s .free) (vec-items new) (x .result) (x .last .free)) (c .row-row .ensures .is) (x .ensures .moved));
     }
 
 pub returns-in-Fill : need.returns-in-Fill
@@ -108,6 +108,6 @@ returns-in-Fill c =
       blobs = t .blobs;
       same = record { sectors = refl; count = c .change-in-Fill .ensures .count; present = refl; saved = refl };
       memory = outside-moved _ s _ (c .args .i) (chainOf r) (s .free) (c .pre) refl (x .ensures .long)
-        (subst (λ (y : Row). Moved (vec-items (s .memory)) (chainOf y) (s .free) (vec-items new) (chainOf r) (s .free)) (c .row-row .ensures .is)
+          (subst (λ (y : Row). Moved (vec-items (s .memory)) (chainOf y) (s .free) (vec-items new) (chainOf r) (s .free)) (c .row-row .ensures .is)
           (moved-filled (vec-items (s .memory)) (vec-items new) (chainOf r) (s .free) _ _ (omega (arith, s .memory .ok, new .ok, x .ensures .long)) (c .row-row .ensures .both) (x .ensures .filled)));
     }
