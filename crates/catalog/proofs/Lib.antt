@@ -4,6 +4,5 @@ pub mod Kept
 pub mod Lookup
 pub mod Change
 pub mod Comes
-pub mod Writes
 pub mod Same
 pub mod Stored

@@ -1,5 +1,4 @@
 pub mod Rows
 pub mod Blobs
 pub mod Found
-pub mod Written
 pub mod Seen

@@ -1,6 +1,5 @@
 // What the built stores share: the table of 64 blob rows, the keys and the power, and the calls that need no more than these.
 pub mod ask;
-pub mod bytes;
 pub mod catalog;
 pub mod edits;
 pub mod find;

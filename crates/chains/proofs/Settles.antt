@@ -12,8 +12,8 @@ use Rattle.store.specs.declared.restart.Past.the-variants.{Cut, Fill}
 use Rattle.store.specs.declared.restart.Restart.{Restart}
 use Rattle.store.specs.Disk.{Blob, blank}
 use Rattle.store.specs.Left.{soundLeft, leftOf, leftEntry}
-use Rattle.catalog.specs.Written.{written}
-use Rattle.catalog.proofs.Writes.{part-grown}
+use Rattle.bytes.specs.Written.{written}
+use Rattle.bytes.proofs.Writes.{part-grown}
 use Rattle.catalog.specs.declared.row.Row.{Row}
 use Rattle.catalog.specs.declared.table.Table.{Table}
 use Rattle.catalog.specs.Rows.{cutLeft, filledLeft}

@@ -10,10 +10,10 @@ ghost use Rattle.chains.specs.Cover.{chainOf, placedRow};
 use catalog::row::Row;
 use sectors::append::append;
 use sectors::append::needed;
-use sectors::bytes::fill;
-use sectors::bytes::read;
 use sectors::chain::Chain;
 use sectors::grow::keep;
+use sectors::payloads::fill;
+use sectors::payloads::read;
 
 pub fn chain_of(row: Row) -> Chain
     requires { ⌜ row .len ≤ 60 * 65536 ⌝ }

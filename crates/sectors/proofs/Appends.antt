@@ -8,8 +8,8 @@ use Rattle.std.specs.Joined.{joined}
 use Rattle.std.proofs.shelf.Lists.{append-assoc, take-take, getD-take}
 use Rattle.store.specs.Occurs.{occurs}
 use Rattle.store.proofs.Occurs.{occurs-append}
-use Rattle.catalog.specs.Written.{written}
-use Rattle.catalog.proofs.Writes.{part-grown}
+use Rattle.bytes.specs.Written.{written}
+use Rattle.bytes.proofs.Writes.{part-grown}
 use Rattle.sectors.specs.declared.chain.Chain.{Chain}
 use Rattle.sectors.specs.Sectors.{nextOf, payload, sectors, after, lastOf, need, Apart}
 use Rattle.sectors.specs.Chains.{list, joint, Stands, Both, Filled, Moved}

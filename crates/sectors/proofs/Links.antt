@@ -1,61 +1,43 @@
 -- A next number, and bytes of a payload, written into the memory.
 use Prim.Native.Nat.{ℕ, _+_, _-_, _*_, _/_, _%_, _^_, _<_, _≤_}
 use native.Mathlib.Omega.{arith}
-use native.Mathlib.Nat.{add-zero, div-div-eq-div-mul}
 use mathlib.Core.Path.{_≡_, refl, sym, ap, _∙_}
 use mathlib.Core.Logic.{_⊎_, inl, inr}
 use mathlib.Core.List.{List, [], _∷_, _++_}
 use lib.ListN.{length, getD, take, drop}
 use Rattle.std.proofs.shelf.Lists.{same-lists, getD-take, getD-drop, drop-take, take-take, drop-drop}
 use Rattle.std.proofs.shelf.Tests.{cases-order, cases-lt}
-use Rattle.catalog.specs.Written.{written}
-use Rattle.catalog.proofs.Writes.{byte-outside, byte-inside, part-outside, length-part, length-written}
-use Rattle.sectors.specs.Sectors.{nextOf, payload, be4, Linked, Stored}
+use Rattle.bytes.specs.Written.{written}
+use Rattle.bytes.proofs.Writes.{byte-outside, byte-inside, part-outside, part-grown, length-part, length-written}
+use Rattle.bytes.specs.BigEndian.{digits, numberOf}
+use Rattle.bytes.proofs.BigEndian.{length-digits, number-digits}
+use Rattle.sectors.specs.Sectors.{nextOf, payload, Linked, Stored}
 
 next-outside : (mem : List ℕ) (at : ℕ) (bs : List ℕ) → at + length bs ≤ length mem → (s : ℕ)
     → (64 * s + 4 ≤ at) ⊎ (at + length bs ≤ 64 * s) → nextOf (written mem at bs) s ≡ nextOf mem s
 unfolding nextOf
-next-outside mem at bs fits s o =
-    let b : (k : ℕ) → 64 * s ≤ k → k < 64 * s + 4 → getD (written mem at bs) k 0 ≡ getD mem k 0 =
-    λ k l m. byte-outside mem at bs fits k 0 (elim o [ inl x ↦ inl (omega arith) | inr x ↦ inr (omega arith) ]) in
-    let b0 = b (64 * s) (omega arith) (omega arith) in
-    let b1 = b (64 * s + 1) (omega arith) (omega arith) in
-    let b2 = b (64 * s + 2) (omega arith) (omega arith) in
-    let b3 = b (64 * s + 3) (omega arith) (omega arith) in
-    omega arith
+next-outside mem at bs fits s o = ap numberOf (part-outside mem at bs fits (64 * s) 4 o)
 
-digits : (n : ℕ) → n < 2 ^ 32 → n / 16777216 % 256 * 16777216 + n / 65536 % 256 * 65536 + n / 256 % 256 * 256 + n % 256 ≡ n
-digits n l =
-    let a : n / 256 * 256 + n % 256 ≡ n = omega arith in
-    let b : n / 256 / 256 ≡ n / 65536 = div-div-eq-div-mul n 256 256 in
-    let c : n / 65536 / 256 ≡ n / 16777216 = div-div-eq-div-mul n 65536 256 in
-    let d : n / 65536 * 256 + n / 256 % 256 ≡ n / 256 = omega arith in
-    let e : n / 16777216 * 256 + n / 65536 % 256 ≡ n / 65536 = omega arith in
-    let f : n / 16777216 < 256 = omega arith in
-    let g : n / 16777216 % 256 ≡ n / 16777216 = omega arith in
-    omega arith
-
-next-here : (mem : List ℕ) (s n : ℕ) → 64 * s + 4 ≤ length mem → n < 2 ^ 32 → nextOf (written mem (64 * s) (be4 n)) s ≡ n
+next-here : (mem : List ℕ) (s n : ℕ) → 64 * s + 4 ≤ length mem → n < 2 ^ 32 → nextOf (written mem (64 * s) (digits 4 n)) s ≡ n
 unfolding nextOf
 next-here mem s n fits l =
-    let z = byte-inside mem (64 * s) (be4 n) fits 0 0 (omega arith) in
-    let b0 : getD (written mem (64 * s) (be4 n)) (64 * s) 0 ≡ n / 16777216 % 256 = ap (λ k. getD (written mem (64 * s) (be4 n)) k 0) (sym (add-zero (64 * s))) ∙ z in
-    let b1 : getD (written mem (64 * s) (be4 n)) (64 * s + 1) 0 ≡ n / 65536 % 256 = byte-inside mem (64 * s) (be4 n) fits 1 0 (omega arith) in
-    let b2 : getD (written mem (64 * s) (be4 n)) (64 * s + 2) 0 ≡ n / 256 % 256 = byte-inside mem (64 * s) (be4 n) fits 2 0 (omega arith) in
-    let b3 : getD (written mem (64 * s) (be4 n)) (64 * s + 3) 0 ≡ n % 256 = byte-inside mem (64 * s) (be4 n) fits 3 0 (omega arith) in
-    omega (arith, digits n l)
+    let d = length-digits 4 n in
+    ap (λ k. numberOf (take k (drop (64 * s) (written mem (64 * s) (digits 4 n))))) (let e : 4 ≡ 0 + length (digits 4 n) = omega arith in e)
+    ∙ ap numberOf (part-grown mem (64 * s) (digits 4 n) (omega arith) (64 * s) 0 (omega arith))
+    ∙ number-digits 4 n (omega arith)
 
 sectors-apart : (q s : ℕ) → (q ≡ s → ⊥) → (64 * q + 64 ≤ 64 * s) ⊎ (64 * s + 64 ≤ 64 * q)
 sectors-apart q s n = elim (cases-order q s) [ inl e ↦ absurd (n e) | inr (inl l) ↦ inl (omega arith) | inr (inr l) ↦ inr (omega arith) ]
 
 -- the next number of one sector is written: those of others, and every payload, are as they were
-pub linked : (mem : List ℕ) (s n : ℕ) → 64 * s + 64 ≤ length mem → n < 2 ^ 32 → Linked mem s n (written mem (64 * s) (be4 n))
+pub linked : (mem : List ℕ) (s n : ℕ) → 64 * s + 64 ≤ length mem → n < 2 ^ 32 → Linked mem s n (written mem (64 * s) (digits 4 n))
 unfolding payload
 linked mem s n fits l =
+    let d = length-digits 4 n in
     record {
       here = next-here mem s n (omega arith) l;
-      others = λ q d. next-outside mem (64 * s) (be4 n) (omega arith) q (elim (sectors-apart q s d) [ inl x ↦ inl (omega arith) | inr x ↦ inr (omega arith) ]);
-      payloads = λ q. part-outside mem (64 * s) (be4 n) (omega arith) (64 * q + 4) 60
+      others = λ q e. next-outside mem (64 * s) (digits 4 n) (omega arith) q (elim (sectors-apart q s e) [ inl x ↦ inl (omega arith) | inr x ↦ inr (omega arith) ]);
+      payloads = λ q. part-outside mem (64 * s) (digits 4 n) (omega arith) (64 * q + 4) 60
           (elim (cases-order q s) [ inl e ↦ inr (omega arith) | inr (inl x) ↦ inl (omega arith) | inr (inr x) ↦ inr (omega arith) ]);
     }
 
@@ -121,15 +103,17 @@ rest-of mem xs s n fits e l =
     ∙ ap (take 60) (drop-drop 4 (64 * s) mem)
 
 -- the number in its first four bytes
-pub next-of : (mem : List ℕ) (s : ℕ) → (let xs = take (64 * s + 64 - 64 * s) (drop (64 * s) mem) in
+number-4 : (xs : List ℕ) → 4 ≤ length xs → getD xs 0 0 * 16777216 + getD xs 1 0 * 65536 + getD xs 2 0 * 256 + getD xs 3 0 ≡ numberOf (take 4 xs)
+number-4 [] l = absurd (omega arith)
+number-4 (a ∷ []) l = absurd (omega arith)
+number-4 (a ∷ b ∷ []) l = absurd (omega arith)
+number-4 (a ∷ b ∷ c ∷ []) l = absurd (omega arith)
+number-4 (a ∷ b ∷ c ∷ d ∷ xs) l = omega arith
+
+pub next-of : (mem : List ℕ) (s : ℕ) → 64 * s + 64 ≤ length mem → (let xs = take (64 * s + 64 - 64 * s) (drop (64 * s) mem) in
     getD xs 0 0 * 16777216 + getD xs 1 0 * 65536 + getD xs 2 0 * 256 + getD xs 3 0 ≡ nextOf mem s)
 unfolding nextOf
-next-of mem s =
-    let m = 64 * s + 64 - 64 * s in
-    let b : (k : ℕ) → k < 64 → getD (take m (drop (64 * s) mem)) k 0 ≡ getD mem (64 * s + k) 0 =
-    λ k l. getD-take m (drop (64 * s) mem) k 0 (omega arith) ∙ getD-drop (64 * s) mem k 0 in
-    let b0 = b 0 (omega arith) ∙ ap (λ k. getD mem k 0) (add-zero (64 * s)) in
-    let b1 = b 1 (omega arith) in
-    let b2 = b 2 (omega arith) in
-    let b3 = b 3 (omega arith) in
-    omega arith
+next-of mem s fits =
+    let k = 64 * s + 64 - 64 * s in
+    number-4 (take k (drop (64 * s) mem)) (omega (arith, length-part mem (64 * s) k (omega arith)))
+    ∙ ap numberOf (take-take 4 k (drop (64 * s) mem) (omega arith))

@@ -7,9 +7,9 @@ use lib.ListN.{length, getD, take, drop, length-append}
 use Rattle.std.specs.Joined.{joined}
 use Rattle.std.proofs.shelf.Lists.{take-at, take-append-drop, take-take, length-take-le, drop-at, getD-take}
 use Rattle.store.specs.Occurs.{occurs}
-use Rattle.catalog.specs.Written.{written}
+use Rattle.bytes.specs.Written.{written}
 use Rattle.store.proofs.Occurs.{occurs-append, occurs-self}
-use Rattle.catalog.proofs.Writes.{part-grown}
+use Rattle.bytes.proofs.Writes.{part-grown}
 use Rattle.sectors.specs.declared.chain.Chain.{Chain}
 use Rattle.sectors.specs.Sectors.{nextOf, payload, sectors, after, lastOf, once, Apart}
 use Rattle.sectors.specs.Chains.{list, joint, Stands, Both, Joined, Split, Filled, Moved, uses}

@@ -9,9 +9,9 @@ use Rattle.std.specs.Joined.{joined}
 use Rattle.std.proofs.shelf.Lists.{append-assoc, take-append-drop, take-take, take-at, take-append-le, drop-take, drop-drop, drop-at, drop-append-le, length-take-le, same-lists, getD-take, getD-drop}
 use Rattle.std.proofs.shelf.Tests.{cases-eq, cases-lt}
 use Rattle.store.specs.Occurs.{occurs}
-use Rattle.catalog.specs.Written.{written}
+use Rattle.bytes.specs.Written.{written}
 use Rattle.store.proofs.Occurs.{occurs-self, occurs-at}
-use Rattle.catalog.proofs.Writes.{byte-outside, byte-inside, length-written}
+use Rattle.bytes.proofs.Writes.{byte-outside, byte-inside, length-written}
 use Rattle.sectors.specs.declared.chain.Chain.{Chain}
 use Rattle.sectors.specs.Sectors.{nextOf, payload, sectors, after, once, Apart, Stored}
 use Rattle.sectors.specs.Chains.{list, joint, Filled}

@@ -5,7 +5,7 @@ use mathlib.Core.List.{List, _++_}
 use lib.ListN.{length, take}
 use Rattle.std.specs.Joined.{joined}
 use Rattle.store.specs.Occurs.{occurs}
-use Rattle.catalog.specs.Written.{written}
+use Rattle.bytes.specs.Written.{written}
 use Rattle.sectors.specs.declared.chain.Chain.{Chain}
 use Rattle.sectors.specs.Sectors.{nextOf, payload, sectors, after, lastOf, once, Apart}
 

@@ -1,18 +1,18 @@
 -- Sectors of 64 bytes: four bytes of next sector number, big-endian, then 60 bytes of payload.
 -- A chain goes by the next numbers alone, as a function from sectors to sectors, and not by the memory:
 -- a write to the memory is then a change of that function at one sector, or none.
-use Prim.Native.Nat.{ℕ, zero, suc, _+_, _*_, _/_, _%_, min, _≤_}
+use Prim.Native.Nat.{ℕ, zero, suc, _+_, _*_, _/_, min, _≤_}
 use mathlib.Core.Path.{_≡_}
 use mathlib.Core.Bool.{cond}
 use mathlib.Core.List.{List, [], _∷_}
-use lib.ListN.{length, getD, take, drop}
+use lib.ListN.{length, take, drop}
 use lib.Dec.{ltb}
+use Rattle.bytes.specs.BigEndian.{numberOf}
+use Rattle.bytes.specs.Written.{written}
 use Rattle.store.specs.Occurs.{occurs}
-use Rattle.catalog.specs.Written.{written}
 
 unfoldable pub nextOf : List ℕ → ℕ → ℕ
-nextOf mem s =
-    getD mem (64 * s) 0 * 16777216 + getD mem (64 * s + 1) 0 * 65536 + getD mem (64 * s + 2) 0 * 256 + getD mem (64 * s + 3) 0
+nextOf mem s = numberOf (take 4 (drop (64 * s) mem))
 
 unfoldable pub payload : List ℕ → ℕ → List ℕ
 payload mem s = take 60 (drop (64 * s + 4) mem)
@@ -43,10 +43,6 @@ Apart mem xs = (p : ℕ) → occurs p xs ≤ once (min (length mem / 64) 65536) 
 -- how many sectors n bytes need
 abbrev pub need : ℕ → ℕ
 need n = (n + 59) / 60
-
--- the four bytes of a sector's number
-abbrev pub be4 : ℕ → List ℕ
-be4 n = (n / 16777216 % 256) ∷ (n / 65536 % 256) ∷ (n / 256 % 256) ∷ (n % 256) ∷ []
 
 -- sector s got the next number n, and nothing else changed
 pub record Linked (mem : List ℕ) (s n : ℕ) (new : List ℕ) : Type 0 where

@@ -5,9 +5,9 @@ ghost use mathlib.Core.List.{_++_};
 ghost use lib.ListN.{length, take};
 ghost use Rattle.sectors.specs.Sectors.{need, nextOf, after, Apart};
 ghost use Rattle.sectors.specs.Chains.{list, joint, Both, Moved, Filled};
-use crate::bytes::write;
 use crate::chain::Chain;
 use crate::grow::lengthen;
+use crate::payloads::write;
 
 // How many sectors so many bytes need.
 pub fn needed(n: usize) -> usize

@@ -3,7 +3,8 @@ ghost use Prim.Native.Nat.{ℕ, _+_, _*_, _^_, _<_, _≤_};
 ghost use mathlib.Core.Path.{_≡_};
 ghost use lib.ListN.{length, take, drop};
 ghost use Rattle.sectors.specs.Sectors.{nextOf, payload, Linked, Stored};
-use catalog::bytes::put_bytes;
+use bytes::copies::put_bytes;
+use bytes::numbers::put_u32;
 
 // The next number of a sector, and its payload.
 pub fn parts(memory: &[u8], s: usize) -> (usize, &[u8])
@@ -24,7 +25,7 @@ pub fn set_next(memory: &mut [u8], s: usize, n: usize)
     requires { ⌜ (64 * s + 64 ≤ length (now memory)) × (n < 2 ^ 32) ⌝ }
     ensures { λ _. ⌜ Linked (now (memory .entry)) s n (now (memory .exit)) ⌝ }
 {
-    put_bytes(memory, 64 * s, &(n as u32).to_be_bytes());
+    put_u32(memory, 64 * s, n as u32);
 }
 
 // Copies bytes out of a sector's payload, and says which sector is next.

@@ -13,9 +13,9 @@ use Rattle.std.proofs.shelf.Lists.{length-take-le, take-take}
 use lib.Dec.{leb}
 use Rattle.std.proofs.shelf.Tests.{lt-leb}
 use Rattle.store.specs.Disk.{Blob, Blobs, Disk, find, change, cutTo, grown}
-use Rattle.catalog.specs.Written.{written}
+use Rattle.bytes.specs.Written.{written}
 use Rattle.store.proofs.Places.{find-changed}
-use Rattle.catalog.proofs.Writes.{part-outside, part-grown}
+use Rattle.bytes.proofs.Writes.{part-outside, part-grown}
 use Rattle.catalog.specs.declared.row.Row.{Row}
 use Rattle.catalog.specs.declared.table.Table.{Table}
 use Rattle.catalog.specs.Rows.{Each, placesOf, grownRow, cutRow}

@@ -17,8 +17,8 @@ use Rattle.catalog.specs.declared.row.Row.{Row}
 use Rattle.catalog.specs.Rows.{none, sized}
 use Rattle.catalog.specs.Blobs.{entryBy, live}
 use Rattle.catalog.specs.Seen.{blobAt}
-use Rattle.catalog.specs.Written.{written}
-use Rattle.catalog.proofs.Writes.{part-grown}
+use Rattle.bytes.specs.Written.{written}
+use Rattle.bytes.proofs.Writes.{part-grown}
 use Rattle.slots.specs.declared.parts.Slots.{Slots}
 use Rattle.slots.specs.Found.{rowAt}
 use Rattle.slots.specs.Seen.{partOf, blobIn, blobs, seen, roomBy}

@@ -12,7 +12,7 @@ use Rattle.std.proofs.shelf.Lists.{getD-map}
 use Rattle.std.proofs.shelf.Tests.{cases-order, le-ltb}
 use Rattle.store.specs.Disk.{find}
 use Rattle.store.specs.Ask.{readOf}
-use Rattle.catalog.proofs.Writes.{length-part}
+use Rattle.bytes.proofs.Writes.{length-part}
 use Rattle.catalog.specs.declared.row.Row.{Row}
 use Rattle.catalog.specs.Rows.{none, placesOf, Ordered}
 use Rattle.std.specs.declared.option.Option.{Option}

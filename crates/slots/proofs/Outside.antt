@@ -9,8 +9,8 @@ use Rattle.std.specs.Of.Vec.{vec-items, vec-len}
 use Rattle.std.proofs.shelf.Lists.{getD-map, getD-set-same}
 use Rattle.catalog.specs.declared.row.Row.{Row}
 use Rattle.catalog.specs.Rows.{none, placesOf}
-use Rattle.catalog.specs.Written.{written}
-use Rattle.catalog.proofs.Writes.{byte-outside}
+use Rattle.bytes.specs.Written.{written}
+use Rattle.bytes.proofs.Writes.{byte-outside}
 use Rattle.slots.specs.declared.parts.Slots.{Slots}
 use Rattle.slots.specs.Found.{rowAt}
 use Rattle.slots.specs.Settled.{SameBut}

@@ -9,7 +9,7 @@ ghost use Rattle.slots.specs.Found.{InUse};
 ghost use Rattle.slots.specs.Settled.{SameBut};
 ghost use Rattle.slots.specs.Untouched.{UntouchedBut};
 use crate::parts::Slots;
-use catalog::bytes::fill_at;
+use bytes::copies::fill_at;
 use catalog::row::Row;
 use store::restart::Past;
 use store::restart::Restart;

@@ -6,7 +6,7 @@ ghost use Rattle.store.specs.Ask.{readOf, CopiedOut};
 ghost use Rattle.slots.specs.Found.{FoundAt};
 ghost use Rattle.slots.specs.Seen.{seen};
 use crate::parts::Slots;
-use catalog::bytes::read_at;
+use bytes::copies::read_at;
 use store::cause::Cause;
 use store::keys::Key;
 

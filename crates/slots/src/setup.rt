@@ -4,7 +4,7 @@ ghost use Rattle.store.specs.Built.{BlobSet, KeySet};
 ghost use Rattle.slots.specs.Seen.{seen};
 ghost use Rattle.slots.specs.Untouched.{Untouched};
 use crate::parts::Slots;
-use catalog::bytes::write_at;
+use bytes::copies::write_at;
 use catalog::row::Row;
 use store::cause::Cause;
 use store::keys::Key;

@@ -7,7 +7,7 @@ ghost use Rattle.slots.specs.Made.{MadeRow};
 ghost use Rattle.slots.specs.Seen.{seen};
 ghost use Rattle.slots.specs.Untouched.{Untouched};
 use crate::parts::Slots;
-use catalog::bytes::write_at;
+use bytes::copies::write_at;
 use store::cause::Cause;
 use store::keys::Key;
 

@@ -8,4 +8,4 @@ returns c =
     let mem = c .args .memory .now in
     let s = c .args .s in
     let e = rest-of mem _ s _ (c .pre) refl refl in
-    record { next = c .from-be-bytes .ensures ∙ next-of mem s; rest = e; long = ap length e ∙ length-payload mem s (c .pre) }
+    record { next = c .from-be-bytes .ensures ∙ next-of mem s (c .pre); rest = e; long = ap length e ∙ length-payload mem s (c .pre) }

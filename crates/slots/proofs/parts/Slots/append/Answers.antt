@@ -5,7 +5,7 @@ use Prim.Native.Nat.{_+_, _*_, _/_}
 use lib.ListN.{length, set}
 use Rattle.std.specs.Of.Vec.{vec-items}
 use Rattle.store.specs.Disk.{Append, grown}
-use Rattle.catalog.specs.Written.{written}
+use Rattle.bytes.specs.Written.{written}
 use Rattle.catalog.specs.Rows.{grownRow}
 use Rattle.catalog.specs.Blobs.{blobsBy}
 use Rattle.catalog.specs.Seen.{blobAt}

@@ -9,7 +9,7 @@ use Rattle.store.proofs.Places.{insert-finds}
 use Rattle.catalog.specs.Rows.{sized}
 use Rattle.catalog.specs.Blobs.{blobsBy}
 use Rattle.catalog.specs.Seen.{blobAt}
-use Rattle.catalog.specs.Written.{written}
+use Rattle.bytes.specs.Written.{written}
 use Rattle.catalog.proofs.Change.{changed}
 use Rattle.catalog.proofs.Stored.{as-disk}
 use Rattle.slots.specs.declared.parts.Slots.{Slots}

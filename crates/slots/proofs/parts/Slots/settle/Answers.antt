@@ -3,7 +3,7 @@ use mathlib.Core.Path.{_≡_, refl, sym, ap, _∙_}
 use Prim.Native.Nat.{_+_, _-_, _*_, _/_, min}
 use lib.ListN.{set, replicate, length-replicate}
 use Rattle.std.specs.Of.Vec.{vec-items}
-use Rattle.catalog.specs.Written.{written}
+use Rattle.bytes.specs.Written.{written}
 use Rattle.catalog.specs.declared.row.Row.{Row}
 use Rattle.catalog.specs.Rows.{cutLeft, filledLeft}
 use Rattle.catalog.proofs.Change.{map-changed}

@@ -1,0 +1,4 @@
+pub mod Pairs
+pub mod Scanned
+pub mod Measured
+pub mod Lent

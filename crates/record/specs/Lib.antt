@@ -1,0 +1,5 @@
+pub mod Written
+pub mod Scans
+pub mod Grades
+pub mod Distances
+pub mod Texts
