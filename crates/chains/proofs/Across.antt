@@ -1,7 +1,7 @@
 -- Facts of chains, where the memory and the chain go by other names.
-use Prim.Native.Nat.{ℕ, _+_, _*_, _≤_}
+use Prim.Native.Nat.{ℕ, _+_}
 use native.Mathlib.Omega.{arith}
-use mathlib.Core.Path.{_≡_, refl, sym, ap, _∙_, subst}
+use mathlib.Core.Path.{_≡_, sym, _∙_, subst}
 use mathlib.Core.List.{List, _++_}
 use Rattle.store.proofs.Occurs.{occurs-append}
 use Rattle.sectors.specs.declared.chain.Chain.{Chain}

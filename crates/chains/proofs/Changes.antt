@@ -1,22 +1,21 @@
 -- What the writing calls make of the table, of one row's blob, and of its room.
-use Prim.Native.Nat.{ℕ, zero, suc, _+_, _-_, _*_, _/_, min, _<_, _≤_}
+use Prim.Native.Nat.{ℕ, suc, _+_, _-_, _*_, _<_, _≤_}
 use native.Mathlib.Omega.{arith}
 use mathlib.Core.Path.{_≡_, refl, sym, ap, _∙_, subst}
-use mathlib.Core.Bool.{true, false, cond}
-use mathlib.Core.List.{List, [], _∷_, _++_, map}
-use lib.ListN.{length, getD, set, take, drop, length-append}
-use lib.Dec.{leb, eqb}
+use mathlib.Core.Bool.{true, false}
+use mathlib.Core.List.{List, _++_, map}
+use lib.ListN.{length, getD, set, take, drop}
+use lib.Dec.{leb}
 use Rattle.std.specs.Holes.{inserted, removed}
 use Rattle.std.specs.Of.Vec.{vec-items}
 use Rattle.std.specs.declared.option.Option.{Option}
-use Rattle.std.specs.declared.option.Option.the-variants.{None, Some}
-use Rattle.std.proofs.shelf.Lists.{length-take-le, take-take, take-at, take-map, take-set, drop-set-lt, set-getD}
+use Rattle.std.specs.declared.option.Option.the-variants.{Some}
+use Rattle.std.proofs.shelf.Lists.{take-take, take-at, take-map, take-set, drop-set-lt, set-getD}
 use Rattle.std.proofs.shelf.Edits.{length-inserted, length-removed}
 use Rattle.std.proofs.shelf.Tests.{lt-leb}
 use Rattle.std.specs.Joined.{joined}
 use Rattle.store.specs.Occurs.{occurs}
-use Rattle.store.specs.declared.keys.Keys.{Keys}
-use Rattle.store.specs.Disk.{Blob, Blobs, Disk, find, change, without, grown, cutTo}
+use Rattle.store.specs.Disk.{Blob, Blobs, find, change, without, grown, cutTo}
 use Rattle.store.proofs.Places.{find-changed}
 use Rattle.catalog.specs.declared.row.Row.{Row}
 use Rattle.catalog.specs.declared.table.Table.{Table}
@@ -31,14 +30,13 @@ use Rattle.catalog.proofs.Lookup.{length-rows, length-blobs, row-live}
 use Rattle.catalog.proofs.Same.{same-at}
 use Rattle.catalog.proofs.Change.{set-blob, changed}
 use Rattle.catalog.proofs.Comes.{gone}
-use Rattle.catalog.proofs.Stored.{on-disk}
 use Rattle.sectors.specs.declared.chain.Chain.{Chain}
 use Rattle.sectors.specs.Sectors.{nextOf, payload, sectors, need}
 use Rattle.sectors.specs.Chains.{list, joint, Stands, Moved}
 use Rattle.chains.specs.declared.chains.Chains.{Chains}
 use Rattle.chains.specs.Cover.{chainOf, placedRow, total}
 use Rattle.chains.specs.Seen as view
-use Rattle.chains.specs.Seen.{chainBytes, contentOf, blobIn, blobs, roomIn, seen}
+use Rattle.chains.specs.Seen.{chainBytes, blobIn, blobs, roomIn}
 use Rattle.chains.specs.Found.{rowAt, Held}
 use Rattle.chains.specs.Made.{SameMemory}
 use Rattle.chains.proofs.Totals.{total-map}
@@ -160,13 +158,6 @@ is-full s n = let e : length (blobs s) ≡ 64 = length-blobs (blobIn s) (s .cata
 
 pub same-memory : (s : Chains) → SameMemory s s
 same-memory s = record { memory = refl; sectors = refl; free = refl; present = refl; saved = refl; up = refl; calls = refl }
-
-pub same-disk : (s t : Chains) (xs : Blobs) → SameMemory s t → blobs t ≡ xs
-    → _≡_ {A = Disk} (seen t .disk) (record { blobs = xs; present = s .catalog .present; saved = s .catalog .saved })
-same-disk s t xs m e =
-    on-disk _ _ _ _ e
-    ∙ ap (λ (k : Keys). let d : Disk = record { blobs = xs; present = k; saved = t .catalog .saved } in d) (m .present)
-    ∙ ap (λ (k : Keys). let d : Disk = record { blobs = xs; present = s .catalog .present; saved = k } in d) (m .saved)
 
 -- what a call leaves of a store whose blob b, in row i, becomes k of what it was -------------------
 

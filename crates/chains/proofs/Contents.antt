@@ -1,17 +1,17 @@
 -- The blobs of a chain store: their bytes, and the room that is left.
-use Prim.Native.Nat.{ℕ, zero, suc, _+_, _-_, _*_, _<_, _≤_}
+use Prim.Native.Nat.{ℕ, suc, _+_, _-_, _*_, _<_}
 use native.Mathlib.Omega.{arith}
-use mathlib.Core.Path.{_≡_, refl, sym, ap, _∙_, subst}
+use mathlib.Core.Path.{_≡_, refl, sym, ap, subst}
 use mathlib.Core.List.{List, [], _∷_, map}
 use lib.ListN.{length, getD, take}
 use Rattle.std.specs.Of.Vec.{vec-items}
 use Rattle.std.specs.declared.option.Option.{Option}
 use Rattle.std.specs.declared.option.Option.the-variants.{None, Some}
 use Rattle.std.proofs.shelf.Lists.{length-take-le}
-use Rattle.store.specs.Disk.{Blob, Blobs, find}
+use Rattle.store.specs.Disk.{Blob, find}
 use Rattle.catalog.specs.declared.row.Row.{Row}
 use Rattle.catalog.specs.declared.table.Table.{Table}
-use Rattle.catalog.specs.Rows.{none, Each, Ordered}
+use Rattle.catalog.specs.Rows.{none, Ordered}
 use Rattle.catalog.specs.Blobs as table
 use Rattle.catalog.specs.Blobs.{live, entryBy, blobsBy}
 use Rattle.catalog.specs.Found as lookup
@@ -23,9 +23,9 @@ use Rattle.sectors.specs.Chains.{joint, Both, Moved}
 use Rattle.sectors.proofs.Pieces.{length-joint}
 use Rattle.chains.specs.declared.chains.Chains.{Chains}
 use Rattle.chains.specs.Cover.{chainOf, total}
-use Rattle.chains.specs.Seen.{chainBytes, contentOf, blobIn, blobs, sectorsOf, unused, roomIn}
+use Rattle.chains.specs.Seen.{chainBytes, contentOf, blobIn, sectorsOf, unused, roomIn}
 use Rattle.chains.specs.Found.{rowAt, InUse, Held, FoundAt}
-use Rattle.chains.proofs.Covering.{Chained, chained, both-of, apart-of, need-within, other-bytes}
+use Rattle.chains.proofs.Covering.{Chained, chained, both-of, apart-of, other-bytes}
 
 module _ (n : ℕ) (mem : List ℕ) (t : Table) (free : Chain) (h : Chained n mem (live t) free) where
   inside : (i : ℕ) → i < t .count → i < length (live t)

@@ -1,9 +1,9 @@
 -- The chains of all blobs and the free chain, as one of them takes sectors from the free chain or gives them back.
-use Prim.Native.Nat.{ℕ, zero, suc, _+_, _-_, _*_, _/_, min, _<_, _≤_}
+use Prim.Native.Nat.{ℕ, suc, _+_, _-_, _/_, min, _<_, _≤_}
 use native.Mathlib.Omega.{arith}
 use mathlib.Core.Path.{_≡_, refl, sym, ap, _∙_, subst}
-use mathlib.Core.Logic.{_⊎_, inl, inr}
-use mathlib.Core.List.{List, [], _∷_, _++_, map}
+use mathlib.Core.Logic.{inl, inr}
+use mathlib.Core.List.{List, _++_}
 use lib.ListN.{length, getD, set, take, drop, length-set}
 use Rattle.std.specs.Joined.{joined}
 use Rattle.std.specs.Of.Vec.{vec-items, vec-len}
@@ -19,12 +19,12 @@ use Rattle.catalog.proofs.Moves.{inserted-each, removed-each}
 use Rattle.sectors.specs.declared.chain.Chain.{Chain}
 use Rattle.sectors.specs.Sectors.{nextOf, payload, sectors, once, need, Apart}
 use Rattle.sectors.specs.Chains.{list, joint, Stands, Both, Filled, Moved, uses}
-use Rattle.sectors.proofs.Paths.{apart-part, once-one, once-in}
+use Rattle.sectors.proofs.Paths.{once-one}
 use Rattle.sectors.proofs.Pieces.{joined-same}
 use Rattle.sectors.proofs.Moves.{stands-same}
 use Rattle.sectors.proofs.Appends.{moved-written}
 use Rattle.chains.specs.declared.chains.Chains.{Chains}
-use Rattle.chains.specs.Cover.{usable, chainOf, total, Ended, Covers, Counted}
+use Rattle.chains.specs.Cover.{usable, chainOf, Ended, Covers, Counted}
 use Rattle.chains.proofs.Totals.{total-at, total-two, total-set, total-inserted, total-removed}
 
 -- n sectors of the memory are in the chains of these rows and in the free chain
@@ -66,9 +66,6 @@ module _ (n : ℕ) (mem : List ℕ) (rs : List Row) (free : Chain) (h : Chained 
 
   pub apart-of : (i : ℕ) → i < length rs → Apart mem (list mem (chainOf (getD rs i none)))
   apart-of i l = fits (list mem (chainOf (getD rs i none))) (λ p. omega (arith, total-at (uses-of mem p) rs i l, h .covers p))
-
-  pub need-within : (i : ℕ) → i < length rs → need (getD rs i none .len) + free .count ≤ n - 1
-  need-within i l = omega (arith, h .counts, total-at (λ (r : Row). need (r .len)) rs i l)
 
   -- no sector is in the chains of two rows, or of a row and free
   never-two : (i k : ℕ) → i < length rs → k < length rs → (k ≡ i → ⊥) → (q : ℕ) → 1 ≤ uses-of mem q (getD rs k none) → uses mem (chainOf (getD rs i none)) free q ≡ 0

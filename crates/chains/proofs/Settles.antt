@@ -1,13 +1,12 @@
 -- What a restart leaves of one blob.
-use Prim.Native.Nat.{ℕ, _+_, _-_, _*_, _<_, _≤_, min}
+use Prim.Native.Nat.{ℕ, _+_, _-_, _*_, _<_, _≤_}
 use native.Mathlib.Omega.{arith}
 use mathlib.Core.Path.{_≡_, refl, sym, ap, _∙_}
 use mathlib.Core.List.{List, _++_}
-use lib.ListN.{length, getD, set, take, drop, replicate, length-replicate}
+use lib.ListN.{length, getD, set, take, replicate, length-replicate}
 use Rattle.std.specs.Joined.{joined}
 use Rattle.std.specs.Of.Vec.{vec-items}
 use Rattle.std.proofs.shelf.Lists.{take-take}
-use Rattle.store.specs.declared.restart.Past.{Past}
 use Rattle.store.specs.declared.restart.Past.the-variants.{Cut, Fill}
 use Rattle.store.specs.declared.restart.Restart.{Restart}
 use Rattle.store.specs.Disk.{Blob, blank}
@@ -17,7 +16,7 @@ use Rattle.bytes.proofs.Writes.{part-grown}
 use Rattle.catalog.specs.declared.row.Row.{Row}
 use Rattle.catalog.specs.declared.table.Table.{Table}
 use Rattle.catalog.specs.Rows.{cutLeft, filledLeft}
-use Rattle.catalog.specs.Blobs.{live, entryBy, blobsBy}
+use Rattle.catalog.specs.Blobs.{live, blobsBy}
 use Rattle.catalog.specs.Seen.{blobAt}
 use Rattle.catalog.proofs.Lookup.{blob-at}
 use Rattle.catalog.proofs.Change.{set-blob}

@@ -1,7 +1,6 @@
 -- What a call leaves of the memory.
 use Prim.Native.Nat.{ℕ, _<_}
 use mathlib.Core.Path.{_≡_}
-use mathlib.Core.List.{List}
 use Rattle.std.specs.Of.Vec.{vec-items, vec-len}
 use Rattle.store.specs.Occurs.{occurs}
 use Rattle.sectors.specs.Chains.{list}

@@ -1,9 +1,9 @@
 -- Bytes written from a sector of a chain on, and bytes added at its end.
-use Prim.Native.Nat.{ℕ, zero, suc, _+_, _-_, _*_, _/_, _<_, _≤_}
+use Prim.Native.Nat.{ℕ, zero, suc, _+_, _-_, _*_, _<_, _≤_}
 use native.Mathlib.Omega.{arith}
 use mathlib.Core.Path.{_≡_, refl, sym, ap, _∙_, subst}
 use mathlib.Core.List.{List, [], _∷_, _++_}
-use lib.ListN.{length, getD, take, drop}
+use lib.ListN.{length, getD, take}
 use Rattle.std.specs.Joined.{joined}
 use Rattle.std.proofs.shelf.Lists.{append-assoc, take-take, getD-take}
 use Rattle.store.specs.Occurs.{occurs}
@@ -11,7 +11,7 @@ use Rattle.store.proofs.Occurs.{occurs-append}
 use Rattle.bytes.specs.Written.{written}
 use Rattle.bytes.proofs.Writes.{part-grown}
 use Rattle.sectors.specs.declared.chain.Chain.{Chain}
-use Rattle.sectors.specs.Sectors.{nextOf, payload, sectors, after, lastOf, need, Apart}
+use Rattle.sectors.specs.Sectors.{nextOf, payload, sectors, after, lastOf, Apart}
 use Rattle.sectors.specs.Chains.{list, joint, Stands, Both, Filled, Moved}
 use Rattle.sectors.proofs.Paths.{sectors-add, length-sectors, apart-part, at-most-once, chain-same}
 use Rattle.sectors.proofs.Pieces.{sixties, length-joined, length-joint, joined-same, sector-at, written-right}

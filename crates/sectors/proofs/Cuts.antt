@@ -1,15 +1,14 @@
 -- Chains joined and cut by one next number.
-use Prim.Native.Nat.{ℕ, zero, suc, _+_, _-_, _*_, _<_, _≤_}
+use Prim.Native.Nat.{ℕ, zero, suc, _+_, _-_, _<_, _≤_}
 use native.Mathlib.Omega.{arith}
-use mathlib.Core.Path.{_≡_, refl, sym, ap, _∙_, subst}
-use mathlib.Core.List.{List, [], _∷_, _++_}
-use lib.ListN.{length}
+use mathlib.Core.Path.{_≡_, sym, ap, _∙_, subst}
+use mathlib.Core.List.{List, _++_}
 use Rattle.store.specs.Occurs.{occurs}
 use Rattle.store.proofs.Occurs.{occurs-append}
 use Rattle.sectors.specs.declared.chain.Chain.{Chain}
 use Rattle.sectors.specs.Sectors.{nextOf, sectors, after, lastOf, Apart, Linked}
 use Rattle.sectors.specs.Chains.{list, Stands, Both, Relinked, Joined, Split}
-use Rattle.sectors.proofs.Paths.{sectors-add, after-add, after-more, after-in, fewer, clear-of, up-to, at-most-once, inside}
+use Rattle.sectors.proofs.Paths.{sectors-add, after-add, after-more, after-in, fewer, clear-of, up-to, at-most-once}
 
 last-add : (i j : ℕ) (f : ℕ → ℕ) (s : ℕ) → 0 < j → lastOf (i + j) f s ≡ lastOf j f (after i f s)
 last-add i zero f s l = absurd (omega arith)

@@ -1,16 +1,14 @@
 -- Sectors each of which leads to the number after its own.
 use Prim.Native.Nat.{ℕ, zero, suc, _+_, _-_, _<_, _≤_}
 use native.Mathlib.Omega.{arith}
-use mathlib.Core.Path.{_≡_, refl, sym, ap, _∙_, subst}
+use mathlib.Core.Path.{_≡_, refl, sym, ap, _∙_}
 use mathlib.Core.Logic.{_⊎_, inl, inr}
-use mathlib.Core.Bool.{true, false}
-use mathlib.Core.List.{List, [], _∷_}
-use lib.Dec.{ltb}
+use mathlib.Core.List.{List, _∷_}
 use Rattle.std.proofs.shelf.Tests.{lt-ltb, le-ltb, eq-eqb, ne-eqb, cases-eq, cases-lt}
 use Rattle.store.specs.Occurs.{occurs}
 use Rattle.sectors.specs.declared.chain.Chain.{Chain}
 use Rattle.sectors.specs.Sectors.{nextOf, sectors, after, lastOf, once}
-use Rattle.sectors.specs.Chains.{list, Stands}
+use Rattle.sectors.specs.Chains.{Stands}
 use Rattle.sectors.proofs.Paths.{after-more}
 
 -- so of k sectors from s on, but for the last

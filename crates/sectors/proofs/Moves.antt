@@ -1,20 +1,18 @@
 -- Sectors that go from the free chain to a chain, or back.
-use Prim.Native.Nat.{ℕ, zero, suc, _+_, _-_, _*_, _/_, min, _<_, _≤_}
+use Prim.Native.Nat.{ℕ, zero, suc, _+_, _-_, _*_, _/_, min, _≤_}
 use native.Mathlib.Omega.{arith}
 use mathlib.Core.Path.{_≡_, refl, sym, ap, _∙_, subst}
 use mathlib.Core.List.{List, [], _∷_, _++_}
-use lib.ListN.{length, getD, take, drop, length-append}
+use lib.ListN.{length, take}
 use Rattle.std.specs.Joined.{joined}
-use Rattle.std.proofs.shelf.Lists.{take-at, take-append-drop, take-take, length-take-le, drop-at, getD-take}
+use Rattle.std.proofs.shelf.Lists.{take-at, drop-at}
 use Rattle.store.specs.Occurs.{occurs}
-use Rattle.bytes.specs.Written.{written}
 use Rattle.store.proofs.Occurs.{occurs-append, occurs-self}
-use Rattle.bytes.proofs.Writes.{part-grown}
 use Rattle.sectors.specs.declared.chain.Chain.{Chain}
-use Rattle.sectors.specs.Sectors.{nextOf, payload, sectors, after, lastOf, once, Apart}
-use Rattle.sectors.specs.Chains.{list, joint, Stands, Both, Joined, Split, Filled, Moved, uses}
-use Rattle.sectors.proofs.Paths.{chain-same, last-same, apart-part, at-most-once, length-sectors, sectors-add, after-add, once-one}
-use Rattle.sectors.proofs.Pieces.{Sixties, sixties, length-joined, joined-same, take-add, sector-at, written-right, length-joint}
+use Rattle.sectors.specs.Sectors.{nextOf, payload, sectors, once, Apart}
+use Rattle.sectors.specs.Chains.{list, joint, Stands, Both, Joined, Split, Moved, uses}
+use Rattle.sectors.proofs.Paths.{chain-same, last-same, apart-part, at-most-once, length-sectors}
+use Rattle.sectors.proofs.Pieces.{Sixties, sixties, joined-same, take-add}
 
 -- a chain whose next numbers are as they were stands as it stood
 pub stands-same : (mem new : List ℕ) (c : Chain) → ((q : ℕ) → 1 ≤ occurs q (list mem c) → nextOf new q ≡ nextOf mem q) → Stands mem c

@@ -1,14 +1,12 @@
 -- Chains by their next numbers: parts of a chain, and a change of one next number.
 use Prim.Native.Nat.{ℕ, zero, suc, _+_, _*_, _/_, min, _<_, _≤_}
 use native.Mathlib.Omega.{arith}
-use mathlib.Core.Path.{_≡_, refl, sym, ap, _∙_, subst}
-use mathlib.Core.Logic.{_⊎_, inl, inr}
+use mathlib.Core.Path.{_≡_, refl, sym, ap, _∙_}
 use mathlib.Core.Bool.{Bool, true, false, cond}
 use mathlib.Core.List.{List, [], _∷_, _++_}
-use lib.ListN.{length, length-append}
+use lib.ListN.{length}
 use lib.Dec.{ltb}
-use Rattle.std.proofs.shelf.Lists.{append-assoc}
-use Rattle.std.proofs.shelf.Tests.{ltb-true, ltb-false}
+use Rattle.std.proofs.shelf.Tests.{ltb-true}
 use Rattle.store.specs.Occurs.{occurs}
 use Rattle.store.proofs.Occurs.{occurs-append, occurs-self}
 use Rattle.sectors.specs.Sectors.{sectors, after, lastOf, once, Apart}

@@ -2,16 +2,13 @@
 use Prim.Native.Nat.{ℕ, zero, suc, _+_, _-_, _*_, _/_, _%_, min, _<_, _≤_}
 use native.Mathlib.Omega.{arith}
 use mathlib.Core.Path.{_≡_, refl, sym, ap, _∙_, subst}
-use mathlib.Core.Logic.{_⊎_, inl, inr}
 use mathlib.Core.List.{List, [], _∷_, _++_}
-use lib.ListN.{length, getD, take, drop, length-append, length-take, length-drop}
+use lib.ListN.{length, getD, take, drop, length-append, length-drop}
 use Rattle.std.specs.Joined.{joined}
-use Rattle.std.proofs.shelf.Lists.{append-assoc, take-append-drop, take-take, take-at, take-append-le, drop-take, drop-drop, drop-at, drop-append-le, length-take-le, same-lists, getD-take, getD-drop}
-use Rattle.std.proofs.shelf.Tests.{cases-eq, cases-lt}
+use Rattle.std.proofs.shelf.Lists.{append-assoc, take-append-drop, take-take, take-at, take-append-le, drop-take, drop-drop, drop-at, drop-append-le, length-take-le}
 use Rattle.store.specs.Occurs.{occurs}
 use Rattle.bytes.specs.Written.{written}
 use Rattle.store.proofs.Occurs.{occurs-self, occurs-at}
-use Rattle.bytes.proofs.Writes.{byte-outside, byte-inside, length-written}
 use Rattle.sectors.specs.declared.chain.Chain.{Chain}
 use Rattle.sectors.specs.Sectors.{nextOf, payload, sectors, after, once, Apart, Stored}
 use Rattle.sectors.specs.Chains.{list, joint, Filled}

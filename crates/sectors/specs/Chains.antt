@@ -1,13 +1,12 @@
 -- Chains of sectors, and what becomes of two of them.
-use Prim.Native.Nat.{ℕ, _+_, _<_, _≤_}
+use Prim.Native.Nat.{ℕ, _+_, _<_}
 use mathlib.Core.Path.{_≡_}
 use mathlib.Core.List.{List, _++_}
-use lib.ListN.{length, take}
 use Rattle.std.specs.Joined.{joined}
 use Rattle.store.specs.Occurs.{occurs}
 use Rattle.bytes.specs.Written.{written}
 use Rattle.sectors.specs.declared.chain.Chain.{Chain}
-use Rattle.sectors.specs.Sectors.{nextOf, payload, sectors, after, lastOf, once, Apart}
+use Rattle.sectors.specs.Sectors.{nextOf, payload, sectors, after, lastOf, Apart}
 
 -- the sectors of a chain, in order
 abbrev pub list : List ℕ → Chain → List ℕ

@@ -1,7 +1,6 @@
 // Chains joined and cut.
 ghost use Prim.Native.Nat.{_≤_};
 ghost use mathlib.Core.Path.{_≡_};
-ghost use mathlib.Core.List.{[]};
 ghost use Rattle.sectors.specs.Sectors.{nextOf, sectors, after, Apart};
 ghost use Rattle.sectors.specs.Chains.{list, Both, Stands, Joined, Split};
 use crate::chain::Chain;

@@ -1,5 +1,5 @@
 use native.Mathlib.Omega.{arith}
-use mathlib.Core.Path.{_≡_, refl, sym, ap}
+use mathlib.Core.Path.{refl, sym, ap}
 use lib.ListN.{replicate}
 use Prim.Native.Nat.{_-_}
 use Rattle.std.specs.Of.Vec.{vec-items}

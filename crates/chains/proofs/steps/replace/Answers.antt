@@ -1,15 +1,14 @@
 use native.Mathlib.Omega.{arith}
 use mathlib.Core.Path.{_≡_, refl, sym, ap, _∙_}
-use mathlib.Core.List.{List, _++_}
-use Prim.Native.Nat.{ℕ, _+_}
+use mathlib.Core.List.{_++_}
+use Prim.Native.Nat.{_+_}
 use lib.ListN.{length, take}
 use Rattle.std.specs.Of.Vec.{vec-items}
 use Rattle.catalog.specs.declared.row.Row.{Row}
 use Rattle.catalog.specs.Rows.{sized}
-use Rattle.sectors.specs.declared.chain.Chain.{Chain}
 use Rattle.sectors.specs.Sectors.{need as need-of}
 use Rattle.sectors.specs.Chains.{joint}
-use Rattle.chains.specs.Cover.{chainOf, placedRow}
+use Rattle.chains.specs.Cover.{chainOf}
 use Rattle.chains.proofs.Across.{moved-as, moved-then}
 use Rattle.chains.proofs.Changes.{placed-chain}
 use Rattle.chains.proofs.steps.replace.Needs as need

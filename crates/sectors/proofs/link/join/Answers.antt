@@ -1,8 +1,7 @@
 use native.Mathlib.Omega.{arith}
 use mathlib.Core.Path.{refl, sym, subst}
 use mathlib.Core.List.{_++_}
-use Prim.Native.Nat.{_+_, _*_, _≤_}
-use lib.ListN.{length}
+use Prim.Native.Nat.{_+_, _≤_}
 use Rattle.store.specs.Occurs.{occurs}
 use Rattle.store.proofs.Occurs.{occurs-append}
 use Rattle.sectors.specs.Sectors.{nextOf}

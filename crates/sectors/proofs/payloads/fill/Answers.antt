@@ -1,7 +1,7 @@
 use native.Mathlib.Omega.{arith}
-use mathlib.Core.Path.{_≡_, refl, sym, ap, _∙_, subst}
+use mathlib.Core.Path.{_≡_, ap, _∙_, subst}
 use mathlib.Core.List.{List, _++_}
-use Prim.Native.Nat.{ℕ, _+_, _-_, _/_, _%_, min, _≤_}
+use Prim.Native.Nat.{ℕ, _+_, _-_, _/_}
 use lib.ListN.{length, take, replicate}
 use Rattle.std.proofs.shelf.Lists.{take-replicate, length-take-le, length-replicate, replicate-append-replicate}
 use Rattle.sectors.specs.Sectors.{nextOf, sectors}

@@ -1,6 +1,5 @@
-use Prim.Native.Nat.{_+_, _-_, _/_, _<_, _≤_}
-use mathlib.Core.Path.{_≡_}
-use lib.ListN.{length, take, replicate}
+use Prim.Native.Nat.{_-_, _≤_}
+use lib.ListN.{replicate}
 use Rattle.sectors.specs.declared.chain.Chain.{Chain}
 use Rattle.sectors.specs.Chains.{Filled}
 use Rattle.sectors.proofs.Pieces.{Suits, Leads}

@@ -1,5 +1,4 @@
-use mathlib.Core.Path.{sym, ap, _∙_, subst}
-use Prim.Native.Nat.{_+_, _*_}
+use mathlib.Core.Path.{sym, _∙_, subst}
 use Rattle.sectors.specs.Sectors.{Stored}
 use Rattle.sectors.proofs.Links.{stored}
 use Rattle.sectors.proofs.sector.copy_in.Needs as need

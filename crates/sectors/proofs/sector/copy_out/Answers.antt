@@ -1,5 +1,4 @@
 use native.Mathlib.Omega.{arith}
-use borrow.Author.Needs.{needs}
 use Rattle.sectors.proofs.sector.copy_out.Needs as need
 
 pub part-copy-from-slice-end : need.part-copy-from-slice-end

@@ -1,7 +1,7 @@
 use native.Mathlib.Omega.{arith}
 use mathlib.Core.Path.{_≡_, refl, sym, ap, _∙_}
 use mathlib.Core.Logic.{_⊎_, inl, inr}
-use Prim.Native.Nat.{ℕ, _+_, _-_, _≤_}
+use Prim.Native.Nat.{_+_, _-_, _≤_}
 use Rattle.std.proofs.shelf.Tests.{cases-eq}
 use Rattle.sectors.specs.Sectors.{nextOf}
 use Rattle.sectors.proofs.Lines.{Rises, all-once, line-stands, once-none}
