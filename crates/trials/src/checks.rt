@@ -1,4 +1,6 @@
 // Each call and each refusal: one text for every make.
+use chains::chains::Chains;
+use chains::stores::ChainsStore;
 use slots::parts::Slots;
 use slots::stores::SlotsStore;
 use std::test::*;
@@ -92,9 +94,21 @@ fn keys<S: Store>(s: &mut S) -> Result<(), Fail> {
 }
 
 #[test]
+fn chains_blobs(rt: LibcRuntime) -> Result<(), Fail> {
+    let mut s = Chains::new(vec![in rt.alloc(); 0u8; 128]?, 100);
+    blobs(&mut s, 60)
+}
+
+#[test]
 fn slots_blobs(rt: LibcRuntime) -> Result<(), Fail> {
     let mut s = Slots::new(vec![in rt.alloc(); 0u8; 640]?, 100);
     blobs(&mut s, 10)
+}
+
+#[test]
+fn chains_listing(rt: LibcRuntime) -> Result<(), Fail> {
+    let mut s = Chains::new(vec![in rt.alloc(); 0u8; 256]?, 100);
+    listing(&mut s)
 }
 
 #[test]
@@ -104,9 +118,21 @@ fn slots_listing(rt: LibcRuntime) -> Result<(), Fail> {
 }
 
 #[test]
+fn chains_reading(rt: LibcRuntime) -> Result<(), Fail> {
+    let mut s = Chains::new(vec![in rt.alloc(); 0u8; 256]?, 100);
+    reading(&mut s)
+}
+
+#[test]
 fn slots_reading(rt: LibcRuntime) -> Result<(), Fail> {
     let mut s = Slots::new(vec![in rt.alloc(); 0u8; 640]?, 100);
     reading(&mut s)
+}
+
+#[test]
+fn chains_keys(rt: LibcRuntime) -> Result<(), Fail> {
+    let mut s = Chains::new(vec![in rt.alloc(); 0u8; 256]?, 5);
+    keys(&mut s)
 }
 
 #[test]

@@ -1,4 +1,6 @@
 // The power goes at every writing call of a script.
+use chains::chains::Chains;
+use chains::stores::ChainsStore;
 use slots::parts::Slots;
 use slots::stores::SlotsStore;
 use std::test::*;
@@ -49,6 +51,15 @@ fn cut_at<S: Store>(s: &mut S, calls: u64) -> Result<(), Fail> {
 fn slots_cuts(rt: LibcRuntime) -> Result<(), Fail> {
     for calls in 0..9u64 {
         let mut s = Slots::new(vec![in rt.alloc(); 0u8; 640]?, calls);
+        cut_at(&mut s, calls)?;
+    }
+    Ok(())
+}
+
+#[test]
+fn chains_cuts(rt: LibcRuntime) -> Result<(), Fail> {
+    for calls in 0..9u64 {
+        let mut s = Chains::new(vec![in rt.alloc(); 0u8; 256]?, calls);
         cut_at(&mut s, calls)?;
     }
     Ok(())

@@ -1,4 +1,6 @@
-// The stores, run on examples: the same text for every make.
+// The stores, run on examples.
+#[cfg(test)]
+mod chained;
 #[cfg(test)]
 mod checks;
 #[cfg(test)]
