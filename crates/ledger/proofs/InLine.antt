@@ -4,6 +4,7 @@ use mathlib.Core.Path.{_≡_, refl, sym, ap, _∙_, subst}
 use mathlib.Core.Logic.{_⊎_, inl, inr}
 use mathlib.Core.Bool.{Bool, true, false}
 use mathlib.Core.List.{List, [], _∷_, _++_, map, reverse}
+use lib.ListN.{length}
 use lib.Dec.{ltb}
 use Rattle.std.proofs.shelf.Tests.{cond-both, cond-false}
 use Rattle.std.specs.declared.option.Option.{Option}
@@ -15,11 +16,12 @@ use Rattle.rules.specs.Rules.{Config, Plan, Fault, answer, refuse, ask, call, c
 use Rattle.rules.specs.Open.{Opened}
 use Rattle.rules.specs.Calls.{truncating, truncated, truncate-rule, keysFirst, anchor, goes, lastBlob, count}
 use Rattle.ledger.specs.Ledger.{Ledger, Event, Called, Refused, Stopped}
-use Rattle.ledger.specs.Runs.{Log, fresh, over, opened, trimmed, staged, running, leaving, ruleOf, isLayout, endOf, Consecutive, Sized, Happened, InLine, InLineFor}
+use Rattle.ledger.specs.Runs.{Log, fresh, over, opened, trimmed, staged, running, leaving, ruleOf, isLayout, endOf, Consecutive, Happened, InLine, InLineFor}
 use Rattle.ledger.specs.Ledger as ledger
 use Rattle.ledger.proofs.Blobs.{impossible, never}
 use Rattle.ledger.proofs.Invariant.{Safe}
 use Rattle.ledger.proofs.States.{State, Spans, trimmed-spans, state-safe}
+use Rattle.ledger.proofs.Padded.{padded, padded-sized, as-padded}
 use Rattle.ledger.proofs.Law.{Sound, sound, holds, outcome}
 
 count-consecutive : (lo k : ℕ) → Consecutive (count lo k)
@@ -152,7 +154,7 @@ module _ {R : Type 0} (c : Config) (writes : R → List ℕ) (decodes : List ℕ
   given p (staged t) l d m s e = impossible cc
   given p (running r) l d m s e = impossible cc
 
-  in-line : badConfig c ≡ false → Sized c writes decodes → InLine c writes decodes
+  in-line : badConfig c ≡ false → ((r : R) → length (writes r) ≡ c .z) → InLine c writes decodes
   in-line good sized = record {
     unstaged = unstaged;
     truncated = λ es m e s l w h.
@@ -180,4 +182,11 @@ module _ {R : Type 0} (c : Config) (writes : R → List ℕ) (decodes : List ℕ
           safe-consecutive c writes (w .disk) (b .ledger) (state-safe c writes l (b .ledger) (w .disk) (b .state)) free
 
 pub in-line-stands : {R : Type 0} → InLineFor R
-in-line-stands c writes decodes good sized = in-line c writes decodes good sized
+in-line-stands c writes decodes good =
+    let so = in-line c (padded c writes) decodes good (padded-sized c writes) in
+    let pad = as-padded c writes decodes in
+    record {
+      unstaged = λ es l w h. so .unstaged es l w (pad es l w h);
+      truncated = λ es m e s l w h. so .truncated es m e s l w (pad (Called (ledger.Truncate m) e s ∷ es) l w h);
+      published = λ es x s l w h. so .published es x s l w (pad (Called x (Stopped None) s ∷ es) l w h);
+    }

@@ -15,7 +15,7 @@ use Rattle.store.specs.Disk.{Blob, Blobs, View, find, Restarted}
 use Rattle.store.specs.Laws.{AllWhole, Lawful}
 use Rattle.rules.specs.Rules.{Plan, Follows, Config, badConfig, Outcome}
 use Rattle.ledger.specs.Ledger.{Ledger, first, Call, Open, Append, Truncate, Publish, Prune, Clear, Commit, Sync, Complete, Leave, End, Done, Refused, Stopped, Event, Restart, Called, Read, offers, after, inHand, Ends, shown, Agrees}
-use Rattle.ledger.specs.Runs.{Log, fresh, over, opened, trimmed, staged, running, spanOf, isLayout, endOf, logAfter, ruleOf, Happened, Sized, ReadBack, HandsIn, handedIn, Law}
+use Rattle.ledger.specs.Runs.{Log, fresh, over, opened, trimmed, staged, running, spanOf, isLayout, endOf, logAfter, ruleOf, Happened, Records, HandsIn, handedIn, Law}
 use Rattle.ledger.specs.Ledger as hands
 use Rattle.ledger.proofs.Blobs.{impossible, never}
 use Rattle.ledger.proofs.Weakening.{safe-restarted, restart-falls, new-rests}
@@ -23,6 +23,7 @@ use Rattle.ledger.proofs.Follow.{Answered, Turned, Halted, follows-leads}
 use Rattle.ledger.proofs.Opens.{Small}
 use Rattle.ledger.proofs.Readings.{Backs}
 use Rattle.ledger.proofs.States.{handOf, Up, up-for, handedBack, back-hand, State, state-safe, safe-kept-far, state-span, state-reads}
+use Rattle.ledger.proofs.Padded.{padded, padded-sized, as-padded}
 use Rattle.ledger.proofs.Events.{Stops, Dones, Faults, stops-closed, rule-event}
 
 small : (bs : Blobs) → AllWhole bs → Small bs
@@ -60,21 +61,21 @@ up-offered (running r) x v e u = u
 -- what is handed in is read back ---------------------------------------------------------------
 
 module _ {R : Type 0} (c : Config) (writes : R → List ℕ) (decodes : List ℕ → Option R) where
-  entered-backs : (rs : List R) (e : ℕ) (handed : ℕ → Option R) → ReadBack c writes decodes rs → Backs writes decodes handed → Backs writes decodes (hands.entered e rs handed)
+  entered-backs : (rs : List R) (e : ℕ) (handed : ℕ → Option R) → Records c writes decodes rs → Backs writes decodes handed → Backs writes decodes (hands.entered e rs handed)
   entered-backs [] e handed k b p r h = b p r h
   entered-backs (q ∷ rs) e handed k b p r h = elim (cases-bool (eqb p e)) [
     | inl i ↦
         let is : Some q ≡ Some r = sym (cond-true (eqb p e) (Some q) (hands.entered (e + 1) rs handed p) i) ∙ h in
         let same : q ≡ r = cc in
-        subst (λ (u : R). decodes (writes u) ≡ Some u) same (k .0)
-    | inr i ↦ entered-backs rs (e + 1) handed (k .1) b p r (sym (cond-false (eqb p e) (Some q) (hands.entered (e + 1) rs handed p) i) ∙ h)
+        subst (λ (u : R). decodes (writes u) ≡ Some u) same (k .1)
+    | inr i ↦ entered-backs rs (e + 1) handed (k .2) b p r (sym (cond-false (eqb p e) (Some q) (hands.entered (e + 1) rs handed p) i) ∙ h)
   ]
 
   module _ (l : Ledger R) where
     abbrev Fine : Ledger R → Type 0
     Fine m = Backs writes decodes (m .handed)
 
-    entry-backs : (x : Call R) → ReadBack c writes decodes (handedIn x) → Fine l → Fine (hands.entry c l x)
+    entry-backs : (x : Call R) → Records c writes decodes (handedIn x) → Fine l → Fine (hands.entry c l x)
     entry-backs (Open o) k b = b
     entry-backs (Append rs n) k b = entered-backs rs (l .end) (l .handed) k b
     entry-backs (Truncate m) k b = b
@@ -86,7 +87,7 @@ module _ {R : Type 0} (c : Config) (writes : R → List ℕ) (decodes : List ℕ
     entry-backs Complete k b = b
     entry-backs Leave k b = b
 
-    left-backs : (x : Call R) (m : Ledger R) → hands.Left c l x m → ReadBack c writes decodes (handedIn x) → Fine l → Fine m
+    left-backs : (x : Call R) (m : Ledger R) → hands.Left c l x m → Records c writes decodes (handedIn x) → Fine l → Fine m
     left-backs (Open o) m e k b = subst Fine (sym e) b
     left-backs (Append rs n) m e k b = subst Fine (sym e) (entered-backs rs (l .end) (l .handed) k b)
     left-backs (Truncate n) m e k b = subst Fine (sym e) b
@@ -102,7 +103,7 @@ module _ {R : Type 0} (c : Config) (writes : R → List ℕ) (decodes : List ℕ
 
 -- the induction ---------------------------------------------------------------------------------
 
-module _ {R : Type 0} (c : Config) (writes : R → List ℕ) (decodes : List ℕ → Option R) (np : 0 < c .n) (zp : 0 < c .z) (pp : 0 < c .page) (sized : Sized c writes decodes) where
+module _ {R : Type 0} (c : Config) (writes : R → List ℕ) (decodes : List ℕ → Option R) (np : 0 < c .n) (zp : 0 < c .z) (pp : 0 < c .page) (sized : (r : R) → length (writes r) ≡ c .z) where
   -- what holds of the events so far, the log in hand and the store
   pub record Holds (es : List (Event R)) (k : Log) (w : View) : Type 0 where
     pub ledger : Ledger R
@@ -226,7 +227,7 @@ sound c good =
     record { n = omega arith; page = omega arith; z = omega arith }
 
 pub law-stands : {R : Type 0} (c : Config) (writes : R → List ℕ) (decodes : List ℕ → Option R) → Law c writes decodes
-law-stands c writes decodes good sized es k w happened =
+law-stands c writes decodes good es k w happened =
     let s = sound c good in
-    let h = holds c writes decodes (s .n) (s .z) (s .page) sized es k w happened in
+    let h = holds c (padded c writes) decodes (s .n) (s .z) (s .page) (padded-sized c writes) es k w (as-padded c writes decodes es k w happened) in
     (h .ledger, h .agrees)

@@ -295,7 +295,7 @@ given-happened = (
   refl,
   inl (v2, (refl, refl, refl, refl, refl), (refl, refl)),
   lawful-one (writes 7) 2 0 6 true (omega arith) (omega arith) (omega arith),
-  (refl, tt),
+  (refl, refl, tt),
   refl,
   refl,
   refl,
