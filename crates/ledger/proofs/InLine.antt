@@ -15,9 +15,10 @@ use Rattle.store.specs.Disk.{Blob, Blobs, Disk, View, find, numbers, Op, Open, 
 use Rattle.rules.specs.Rules.{Config, Plan, Fault, answer, refuse, ask, call, calls, refuseIf, persist, aligned, blobOf, badConfig, ItemPruned, Outcome, Follows}
 use Rattle.rules.specs.Open.{Opened}
 use Rattle.rules.specs.Calls.{truncating, truncated, truncate-rule, keysFirst, anchor, goes, lastBlob, count}
-use Rattle.ledger.specs.Ledger.{Ledger, Event, Called, Refused, Stopped}
+use Rattle.ledger.specs.History.{Event, Called, Refused, Stopped}
+use Rattle.ledger.specs.Ledger.{Ledger}
 use Rattle.ledger.specs.Runs.{Log, fresh, over, opened, trimmed, staged, running, leaving, ruleOf, isLayout, endOf, Consecutive, Happened, InLine, InLineFor}
-use Rattle.ledger.specs.Ledger as ledger
+use Rattle.ledger.specs.History as hands
 use Rattle.ledger.proofs.Blobs.{impossible, never}
 use Rattle.ledger.proofs.Invariant.{Safe}
 use Rattle.ledger.proofs.States.{State, Spans, trimmed-spans, state-safe}
@@ -146,7 +147,7 @@ module _ {R : Type 0} (c : Config) (writes : R → List ℕ) (decodes : List ℕ
   spans-free l o d (a, e, inl k) = let f = k .stand .keys .target in (ap (λ (j : Keys). j .target) (k .now) ∙ f, f)
   spans-free l o d (a, e, inr b) = let f = b .empty .target in (ap (λ (j : Keys). j .target) (b .now) ∙ f, f)
 
-  given : (p : Plan Log) (k : Log) (l : Ledger R) (d : Disk) (m : ℕ) → State c writes k l d → ruleOf c writes decodes k d (ledger.Truncate m) ≡ Some p → TamePlan p × Free d
+  given : (p : Plan Log) (k : Log) (l : Ledger R) (d : Disk) (m : ℕ) → State c writes k l d → ruleOf c writes decodes k d (hands.Truncate m) ≡ Some p → TamePlan p × Free d
   given p fresh l d m s e = impossible cc
   given p over l d m s e = impossible cc
   given p (opened o) l d m s e = let i : leaving trimmed (truncate-rule c d o m) ≡ p = cc in (subst TamePlan i (tame-truncate c d o m), spans-free l o d s)
@@ -160,7 +161,7 @@ module _ {R : Type 0} (c : Config) (writes : R → List ℕ) (decodes : List ℕ
     truncated = λ es m e s l w h.
         let b = holds c writes decodes (so .n) (so .z) (so .page) sized es (h .0) (h .1) (h .4) in
         let g = given (h .2) (h .0) (b .ledger) (h .1 .disk) m (b .state) (h .5) in
-        unstaged (Called (ledger.Truncate m) e s ∷ es) l w h (follows-free (h .2) (h .1) w (h .3) (g .0) (g .1) (h .6));
+        unstaged (Called (hands.Truncate m) e s ∷ es) l w h (follows-free (h .2) (h .1) w (h .3) (g .0) (g .1) (h .6));
     published = λ es x s l w h.
         let b = holds c writes decodes (so .n) (so .z) (so .page) sized es (h .0) (h .1) (h .4) in
         let is : Stopped None ≡ endOf (h .3) = h .9 in
@@ -187,6 +188,6 @@ in-line-stands c writes decodes good =
     let pad = as-padded c writes decodes in
     record {
       unstaged = λ es l w h. so .unstaged es l w (pad es l w h);
-      truncated = λ es m e s l w h. so .truncated es m e s l w (pad (Called (ledger.Truncate m) e s ∷ es) l w h);
+      truncated = λ es m e s l w h. so .truncated es m e s l w (pad (Called (hands.Truncate m) e s ∷ es) l w h);
       published = λ es x s l w h. so .published es x s l w (pad (Called x (Stopped None) s ∷ es) l w h);
     }

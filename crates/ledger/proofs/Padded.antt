@@ -12,7 +12,7 @@ use Rattle.std.specs.declared.option.Option.the-variants.{Some}
 use Rattle.store.specs.Disk.{View, Op}
 use Rattle.rules.specs.Rules.{Config, MAX, Plan, Fault, answer, ask, calls, refuseIf, SizeOverflow, EmptyAppend, Outcome, answered, refused, stopped, Follows}
 use Rattle.rules.specs.Calls.{Running, appending, owedAfter, append-rule, trimmed-append-rule}
-use Rattle.ledger.specs.Ledger.{Call, Open, Append, Truncate, Publish, Prune, Clear, Commit, Sync, Complete, Leave, End, Done, Refused, Stopped, Event, Restart, Called, Read}
+use Rattle.ledger.specs.History.{Call, Open, Append, Truncate, Publish, Prune, Clear, Commit, Sync, Complete, Leave, End, Done, Refused, Stopped, Event, Restart, Called, Read}
 use Rattle.ledger.specs.Runs.{Log, fresh, over, opened, trimmed, staged, running, leaving, endOf, handedIn, packed, ruleOf, Records, HandsIn, Happened}
 use Rattle.ledger.proofs.Blobs.{impossible}
 

@@ -21,7 +21,9 @@ use Rattle.store.specs.declared.cause.Cause.{Cause}
 use Rattle.store.specs.Disk.{Blob, Blobs, View, find}
 use Rattle.rules.specs.Rules.{Config, firstIn, Fault, answered}
 use Rattle.rules.specs.Reads.{when, falling, outside, lacking, bytesOf, Copy, copied, Reading, decoded, reading, unless, ended}
-use Rattle.ledger.specs.Ledger.{Ledger, Ask, One, Many, Reads, denial}
+use Rattle.ledger.specs.History.{Ask, One, Many}
+use Rattle.ledger.specs.Ledger.{Ledger, denial}
+use Rattle.ledger.specs.Promises.{Reads}
 use Rattle.ledger.specs.Runs.{Records, readBy, told}
 use Rattle.ledger.proofs.Blobs.{looked, impossible, listed-find, found-listed}
 use Rattle.ledger.proofs.Invariant.{first, room, first-is, first-room, first-apart, Rows, Held}
@@ -176,7 +178,7 @@ module _ {R : Type 0} (c : Config) (enc : R → List ℕ) (decodes : List ℕ �
       )
 
   -- the answer of a read is as the ledger says
-  answers : (l : Ledger R) (v : View) (q : Ask) (ps : List ℕ) → Rattle.ledger.specs.Ledger.positions q ≡ ps → Backs enc decodes (l .handed) → ((p : ℕ) → l .start ≤ p → p < l .end → Good c enc (l .start) v (l .handed) p)
+  answers : (l : Ledger R) (v : View) (q : Ask) (ps : List ℕ) → Rattle.ledger.specs.Promises.positions q ≡ ps → Backs enc decodes (l .handed) → ((p : ℕ) → l .start ≤ p → p < l .end → Good c enc (l .start) v (l .handed) p)
       → (denial c l q ≡ None → Inside-all (l .start) (l .end) ps) → Reads c l v q (told c enc decodes (unless decodes (denial c l q) (reading decodes c (l .start) v ps)))
   answers l v q ps is back each inside = go (looked (denial c l q))
     where

@@ -14,7 +14,9 @@ use Rattle.rules.specs.Rules.{Plan, answer, refuse, ask, call, refuseIf, Outcom
 use Rattle.rules.specs.Open.{Opened, open-rule}
 use Rattle.rules.specs.Calls.{Running, truncate-rule, publish-rule, trimmed-append-rule, trimmed-sync-rule, trimmed-prune-rule, stage-rule, complete-rule, append-rule, commit-rule, sync-rule, prune-rule}
 use Rattle.rules.specs.Reads.{Reading, read-rule, read-many-rule}
-use Rattle.ledger.specs.Ledger.{Ledger, Call, Open, Append, Truncate, Publish, Prune, Clear, Commit, Sync, Complete, Leave, End, Done, Refused, Stopped, Ask, One, Many, Answer, Gave, Denied, Failed, Event, Restart, Called, Read, Agrees}
+use Rattle.ledger.specs.History.{Call, Open, Append, Truncate, Publish, Prune, Clear, Commit, Sync, Complete, Leave, End, Done, Refused, Stopped, Ask, One, Many, Answer, Gave, Denied, Failed, Event, Restart, Called, Read}
+use Rattle.ledger.specs.Ledger.{Ledger}
+use Rattle.ledger.specs.Promises.{Agrees}
 
 -- the log in hand: none before an open, none after its end
 pub data Log : Type 0 where
