@@ -1,14 +1,12 @@
 // The questions.
 ghost use mathlib.Core.Path.{_≡_};
 ghost use lib.ListN.{length};
-ghost use Rattle.store.specs.Ask.{aboveOf, belowOf, lengthOf, roomOf, scanOf, keyOf};
-ghost use Rattle.store.specs.Ask.{readOf, CopiedOut};
+ghost use Rattle.store.specs.Ask.{roomOf, readOf, CopiedOut};
 ghost use Rattle.slots.specs.Found.{FoundAt};
 ghost use Rattle.slots.specs.Seen.{seen};
 use crate::parts::Slots;
 use bytes::copies::read_at;
 use store::cause::Cause;
-use store::keys::Key;
 
 impl Slots {
     // The place of the blob with this number.
@@ -16,26 +14,6 @@ impl Slots {
         ensures { λ r. ⌜ FoundAt b (now (self .entry)) r ⌝ }
     {
         self.catalog.table.find(b)
-    }
-
-    // The lowest number at or above b.
-    pub fn at_or_above(&self, b: u64) -> Result<Option<u64>, Cause>
-        ensures { λ r. ⌜ r ≡ aboveOf (seen (now (self .entry))) b ⌝ }
-    {
-        self.catalog.at_or_above(b)
-    }
-
-    // The highest number at or below b.
-    pub fn at_or_below(&self, b: u64) -> Result<Option<u64>, Cause>
-        ensures { λ r. ⌜ r ≡ belowOf (seen (now (self .entry))) b ⌝ }
-    {
-        self.catalog.at_or_below(b)
-    }
-
-    pub fn len(&self, b: u64) -> Result<u64, Cause>
-        ensures { λ r. ⌜ r ≡ lengthOf (seen (now (self .entry))) b ⌝ }
-    {
-        self.catalog.len(b)
     }
 
     // The bytes of a part less the blob's length.
@@ -49,19 +27,6 @@ impl Slots {
             return Err(Cause::Missing);
         };
         Ok((self.each - self.catalog.table.rows[i].len) as u64)
-    }
-
-    pub fn key(&self, k: Key) -> Result<Option<u64>, Cause>
-        ensures { λ r. ⌜ r ≡ keyOf (seen (now (self .entry))) k ⌝ }
-    {
-        self.catalog.key(k)
-    }
-
-    // The smaller of the sound length and a limit.
-    pub fn scan(&self, b: u64, limit: u64) -> Result<u64, Cause>
-        ensures { λ r. ⌜ r ≡ scanOf (seen (now (self .entry))) b limit ⌝ }
-    {
-        self.catalog.scan(b, limit)
     }
 
     // As many bytes as out has, from `at` on.

@@ -2,14 +2,13 @@
 ghost use mathlib.Core.Path.{_≡_};
 ghost use Rattle.store.specs.Built.{Counts};
 ghost use Rattle.store.specs.Disk.{Wrote};
-ghost use Rattle.store.specs.Disk.{Open, Append, Truncate, Sync, Remove, Put, DropKey, SyncKeys};
+ghost use Rattle.store.specs.Disk.{Open, Append, Truncate, Remove};
 ghost use Rattle.slots.specs.Made.{MadeRow};
 ghost use Rattle.slots.specs.Seen.{seen};
 ghost use Rattle.slots.specs.Untouched.{Untouched};
 use crate::parts::Slots;
 use bytes::copies::write_at;
 use store::cause::Cause;
-use store::keys::Key;
 
 impl Slots {
     // Sees that blob b has a row. A new one is empty, and false says that 64 are in use.
@@ -85,14 +84,6 @@ impl Slots {
         Ok(())
     }
 
-    pub fn sync(&mut self, b: u64) -> Result<(), Cause>
-        ensures wrote { λ r. ⌜ Wrote (Sync b) (seen (now (self .entry))) r (seen (now (self .exit))) ⌝ }
-        ensures counts { λ r. ⌜ Counts (seen (now (self .entry))) (now (self .entry) .catalog .calls) r (seen (now (self .exit))) (now (self .exit) .catalog .calls) ⌝ }
-        ensures memory { λ _. ⌜ now (self .exit) .memory ≡ now (self .entry) .memory ⌝ }
-    {
-        self.catalog.sync(b)
-    }
-
     pub fn remove(&mut self, b: u64) -> Result<(), Cause>
         ensures wrote { λ r. ⌜ Wrote (Remove b) (seen (now (self .entry))) r (seen (now (self .exit))) ⌝ }
         ensures counts { λ r. ⌜ Counts (seen (now (self .entry))) (now (self .entry) .catalog .calls) r (seen (now (self .exit))) (now (self .exit) .catalog .calls) ⌝ }
@@ -107,29 +98,5 @@ impl Slots {
         self.catalog.table.remove(i);
         self.catalog.calls -= 1;
         Ok(())
-    }
-
-    pub fn put(&mut self, k: Key, v: u64) -> Result<(), Cause>
-        ensures wrote { λ r. ⌜ Wrote (Put k v) (seen (now (self .entry))) r (seen (now (self .exit))) ⌝ }
-        ensures counts { λ r. ⌜ Counts (seen (now (self .entry))) (now (self .entry) .catalog .calls) r (seen (now (self .exit))) (now (self .exit) .catalog .calls) ⌝ }
-        ensures memory { λ _. ⌜ now (self .exit) .memory ≡ now (self .entry) .memory ⌝ }
-    {
-        self.catalog.put(k, v)
-    }
-
-    pub fn drop_key(&mut self, k: Key) -> Result<(), Cause>
-        ensures wrote { λ r. ⌜ Wrote (DropKey k) (seen (now (self .entry))) r (seen (now (self .exit))) ⌝ }
-        ensures counts { λ r. ⌜ Counts (seen (now (self .entry))) (now (self .entry) .catalog .calls) r (seen (now (self .exit))) (now (self .exit) .catalog .calls) ⌝ }
-        ensures memory { λ _. ⌜ now (self .exit) .memory ≡ now (self .entry) .memory ⌝ }
-    {
-        self.catalog.drop_key(k)
-    }
-
-    pub fn sync_keys(&mut self) -> Result<(), Cause>
-        ensures wrote { λ r. ⌜ Wrote SyncKeys (seen (now (self .entry))) r (seen (now (self .exit))) ⌝ }
-        ensures counts { λ r. ⌜ Counts (seen (now (self .entry))) (now (self .entry) .catalog .calls) r (seen (now (self .exit))) (now (self .exit) .catalog .calls) ⌝ }
-        ensures memory { λ _. ⌜ now (self .exit) .memory ≡ now (self .entry) .memory ⌝ }
-    {
-        self.catalog.sync_keys()
     }
 }

@@ -1,6 +1,6 @@
 use Rattle.slots.specs.Seen.{contentOf, roomIn}
 use Rattle.slots.proofs.Lookup.{stands}
-use Rattle.slots.proofs.parts.Slots.len.Needs as need
+use Rattle.slots.proofs.stores.SlotsStore.len.Needs as need
 
 pub returns : need.returns
 returns c = let s = c .args .self .now in c .len .ensures (contentOf s) (roomIn (s .each)) (stands s)

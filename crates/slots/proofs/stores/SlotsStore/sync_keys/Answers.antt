@@ -1,17 +1,18 @@
 use mathlib.Core.Path.{refl}
+use Rattle.catalog.proofs.Same.{same-refl}
 use Rattle.slots.specs.Seen.{contentOf, roomIn}
 use Rattle.slots.proofs.Lookup.{stands}
 use Rattle.slots.proofs.Change.{kept-same}
-use Rattle.slots.proofs.parts.Slots.sync.Needs as need
+use Rattle.slots.proofs.stores.SlotsStore.sync_keys.Needs as need
 
 pub ghost-self : need.ghost-self
 ghost-self c =
     let s = c .args .self .now in
-    let k = kept-same s (c .sync .last .self .table) (c .sync .ensures .rows) in
+    let k = kept-same s (c .sync-keys .last .self .table) (same-refl (s .catalog .table) (c .sync-keys .last .self .table) (c .sync-keys .ensures .table)) in
     (s .cut, (k .0, (k .1, tt)))
 
 pub returns : need.returns
 returns c =
     let s = c .args .self .now in
-    let h = c .sync .ensures .called (contentOf s) (roomIn (s .each)) (stands s) in
+    let h = c .sync-keys .ensures .called (contentOf s) (roomIn (s .each)) (stands s) in
     record { wrote = h .0; counts = h .1; memory = refl }
