@@ -2,8 +2,7 @@
 ghost use Prim.Native.Nat.{_+_, _-_, _*_, _<_};
 ghost use mathlib.Core.Path.{_≡_};
 ghost use lib.ListN.{length};
-ghost use Rattle.store.specs.Ask.{aboveOf, belowOf, lengthOf, roomOf, scanOf, keyOf};
-ghost use Rattle.store.specs.Ask.{readOf, CopiedOut};
+ghost use Rattle.store.specs.Ask.{roomOf, readOf, CopiedOut};
 ghost use Rattle.sectors.specs.Sectors.{need};
 ghost use Rattle.chains.specs.Found.{rowAt, FoundAt, InUse};
 ghost use Rattle.chains.specs.Seen.{seen};
@@ -12,7 +11,6 @@ use crate::steps::copy;
 use catalog::row::Row;
 use sectors::append::needed;
 use store::cause::Cause;
-use store::keys::Key;
 
 impl Chains {
     // The place of the blob with this number.
@@ -38,26 +36,6 @@ impl Chains {
         60 * (needed(row.len) + self.free.count) - row.len
     }
 
-    // The lowest number at or above b.
-    pub fn at_or_above(&self, b: u64) -> Result<Option<u64>, Cause>
-        ensures { λ r. ⌜ r ≡ aboveOf (seen (now (self .entry))) b ⌝ }
-    {
-        self.catalog.at_or_above(b)
-    }
-
-    // The highest number at or below b.
-    pub fn at_or_below(&self, b: u64) -> Result<Option<u64>, Cause>
-        ensures { λ r. ⌜ r ≡ belowOf (seen (now (self .entry))) b ⌝ }
-    {
-        self.catalog.at_or_below(b)
-    }
-
-    pub fn len(&self, b: u64) -> Result<u64, Cause>
-        ensures { λ r. ⌜ r ≡ lengthOf (seen (now (self .entry))) b ⌝ }
-    {
-        self.catalog.len(b)
-    }
-
     // What the last sector has left, and 60 bytes for each free sector.
     pub fn room(&self, b: u64) -> Result<u64, Cause>
         ensures { λ r. ⌜ r ≡ roomOf (seen (now (self .entry))) b ⌝ }
@@ -69,19 +47,6 @@ impl Chains {
             return Err(Cause::Missing);
         };
         Ok(self.room_at(i) as u64)
-    }
-
-    pub fn key(&self, k: Key) -> Result<Option<u64>, Cause>
-        ensures { λ r. ⌜ r ≡ keyOf (seen (now (self .entry))) k ⌝ }
-    {
-        self.catalog.key(k)
-    }
-
-    // The smaller of the sound length and a limit.
-    pub fn scan(&self, b: u64, limit: u64) -> Result<u64, Cause>
-        ensures { λ r. ⌜ r ≡ scanOf (seen (now (self .entry))) b limit ⌝ }
-    {
-        self.catalog.scan(b, limit)
     }
 
     // As many bytes as out has, from `at` on.

@@ -15,7 +15,7 @@ use sectors::grow::keep;
 use sectors::payloads::fill;
 use sectors::payloads::read;
 
-pub fn chain_of(row: Row) -> Chain
+pub(crate) fn chain_of(row: Row) -> Chain
     requires { ⌜ row .len ≤ 60 * 65536 ⌝ }
     ensures { λ r. ⌜ r ≡ chainOf row ⌝ }
 {
@@ -27,7 +27,7 @@ pub fn chain_of(row: Row) -> Chain
 }
 
 // The same row with its bytes in another chain.
-pub fn placed(row: Row, chain: Chain) -> Row
+pub(crate) fn placed(row: Row, chain: Chain) -> Row
     ensures { λ r. ⌜ r ≡ placedRow row chain ⌝ }
 {
     Row {
@@ -38,7 +38,7 @@ pub fn placed(row: Row, chain: Chain) -> Row
 }
 
 // Adds bytes at the end, in sectors from the free chain where it needs more.
-pub fn extend(memory: &mut Vec<u8>, free: &mut Chain, row: Row, bytes: &[u8]) -> Chain
+pub(crate) fn extend(memory: &mut Vec<u8>, free: &mut Chain, row: Row, bytes: &[u8]) -> Chain
     requires both { ⌜ Both (vec-items (now memory)) (chainOf row) (now free) ⌝ }
     requires room { ⌜ row .len + length (now bytes) ≤ 60 * (need (row .len) + now free .count) ⌝ }
     ensures moved { λ r. ⌜ Moved (vec-items (now (memory .entry))) (chainOf row) (now (free .entry)) (vec-items (now (memory .exit))) r (now (free .exit)) ⌝ }
@@ -51,7 +51,7 @@ pub fn extend(memory: &mut Vec<u8>, free: &mut Chain, row: Row, bytes: &[u8]) ->
 }
 
 // Keeps the sectors that the first n bytes need, and gives the others back.
-pub fn shorten(memory: &mut Vec<u8>, free: &mut Chain, row: Row, n: usize) -> Chain
+pub(crate) fn shorten(memory: &mut Vec<u8>, free: &mut Chain, row: Row, n: usize) -> Chain
     requires both { ⌜ Both (vec-items (now memory)) (chainOf row) (now free) ⌝ }
     requires within { ⌜ n ≤ row .len ⌝ }
     ensures moved { λ r. ⌜ Moved (vec-items (now (memory .entry))) (chainOf row) (now (free .entry)) (vec-items (now (memory .exit))) r (now (free .exit)) ⌝ }
@@ -65,7 +65,7 @@ pub fn shorten(memory: &mut Vec<u8>, free: &mut Chain, row: Row, n: usize) -> Ch
 }
 
 // Sets the bytes from `from` on to one value.
-pub fn blot(memory: &mut Vec<u8>, free: Chain, row: Row, from: usize, value: u8)
+pub(crate) fn blot(memory: &mut Vec<u8>, free: Chain, row: Row, from: usize, value: u8)
     requires both { ⌜ Both (vec-items (now memory)) (chainOf row) free ⌝ }
     requires within { ⌜ from ≤ row .len ⌝ }
     ensures filled { λ _. ⌜ Filled (vec-items (now (memory .entry))) (chainOf row) from (replicate (row .len - from) value) (vec-items (now (memory .exit))) ⌝ }
@@ -76,7 +76,7 @@ pub fn blot(memory: &mut Vec<u8>, free: Chain, row: Row, from: usize, value: u8)
 }
 
 // Copies bytes out, from `at` on.
-pub fn copy(memory: &Vec<u8>, free: Chain, row: Row, at: usize, out: &mut [u8])
+pub(crate) fn copy(memory: &Vec<u8>, free: Chain, row: Row, at: usize, out: &mut [u8])
     requires both { ⌜ Both (vec-items (now memory)) (chainOf row) free ⌝ }
     requires within { ⌜ at + length (now out) ≤ row .len ⌝ }
     ensures { λ _. ⌜ now (out .exit) ≡ take (length (now (out .entry))) (drop at (take (row .len) (joint (vec-items (now (memory .entry))) (chainOf row)))) ⌝ }
@@ -86,7 +86,7 @@ pub fn copy(memory: &Vec<u8>, free: Chain, row: Row, at: usize, out: &mut [u8])
 }
 
 // Other bytes in the place of all that were there.
-pub fn replace(memory: &mut Vec<u8>, free: &mut Chain, row: Row, bytes: &[u8]) -> Chain
+pub(crate) fn replace(memory: &mut Vec<u8>, free: &mut Chain, row: Row, bytes: &[u8]) -> Chain
     requires both { ⌜ Both (vec-items (now memory)) (chainOf row) (now free) ⌝ }
     requires room { ⌜ length (now bytes) ≤ 60 * (need (row .len) + now free .count) ⌝ }
     ensures moved { λ r. ⌜ Moved (vec-items (now (memory .entry))) (chainOf row) (now (free .entry)) (vec-items (now (memory .exit))) r (now (free .exit)) ⌝ }

@@ -1,4 +1,7 @@
-// The chain store is a store.
+// The chain store is a store. What it only hands on to its catalog stands here.
+ghost use mathlib.Core.Path.{_≡_};
+ghost use Rattle.store.specs.Built.{Counts};
+ghost use Rattle.store.specs.Disk.{Wrote, Sync, Put, DropKey, SyncKeys};
 ghost use Rattle.chains.specs.Seen.{seen};
 use crate::chains::Chains;
 use store::cause::Cause;
@@ -10,15 +13,15 @@ pub impl Store for Chains as ChainsStore {
     ghost view = { seen };
 
     fn at_or_above(&self, b: u64) -> Result<Option<u64>, Cause> {
-        Chains::at_or_above(self, b)
+        self.catalog.at_or_above(b)
     }
 
     fn at_or_below(&self, b: u64) -> Result<Option<u64>, Cause> {
-        Chains::at_or_below(self, b)
+        self.catalog.at_or_below(b)
     }
 
     fn len(&self, b: u64) -> Result<u64, Cause> {
-        Chains::len(self, b)
+        self.catalog.len(b)
     }
 
     fn room(&self, b: u64) -> Result<u64, Cause> {
@@ -26,11 +29,11 @@ pub impl Store for Chains as ChainsStore {
     }
 
     fn key(&self, k: Key) -> Result<Option<u64>, Cause> {
-        Chains::key(self, k)
+        self.catalog.key(k)
     }
 
     fn scan(&self, b: u64, limit: u64) -> Result<u64, Cause> {
-        Chains::scan(self, b, limit)
+        self.catalog.scan(b, limit)
     }
 
     fn read(&self, b: u64, at: u64, out: &mut [u8]) -> Result<(), Cause> {
@@ -49,24 +52,40 @@ pub impl Store for Chains as ChainsStore {
         Chains::truncate(self, b, n)
     }
 
-    fn sync(&mut self, b: u64) -> Result<(), Cause> {
-        Chains::sync(self, b)
+    fn sync(&mut self, b: u64) -> Result<(), Cause>
+        ensures wrote { λ r. ⌜ Wrote (Sync b) (seen (now (self .entry))) r (seen (now (self .exit))) ⌝ }
+        ensures counts { λ r. ⌜ Counts (seen (now (self .entry))) (now (self .entry) .catalog .calls) r (seen (now (self .exit))) (now (self .exit) .catalog .calls) ⌝ }
+        ensures memory { λ _. ⌜ now (self .exit) .memory ≡ now (self .entry) .memory ⌝ }
+    {
+        self.catalog.sync(b)
     }
 
     fn remove(&mut self, b: u64) -> Result<(), Cause> {
         Chains::remove(self, b)
     }
 
-    fn put(&mut self, k: Key, v: u64) -> Result<(), Cause> {
-        Chains::put(self, k, v)
+    fn put(&mut self, k: Key, v: u64) -> Result<(), Cause>
+        ensures wrote { λ r. ⌜ Wrote (Put k v) (seen (now (self .entry))) r (seen (now (self .exit))) ⌝ }
+        ensures counts { λ r. ⌜ Counts (seen (now (self .entry))) (now (self .entry) .catalog .calls) r (seen (now (self .exit))) (now (self .exit) .catalog .calls) ⌝ }
+        ensures memory { λ _. ⌜ now (self .exit) .memory ≡ now (self .entry) .memory ⌝ }
+    {
+        self.catalog.put(k, v)
     }
 
-    fn drop_key(&mut self, k: Key) -> Result<(), Cause> {
-        Chains::drop_key(self, k)
+    fn drop_key(&mut self, k: Key) -> Result<(), Cause>
+        ensures wrote { λ r. ⌜ Wrote (DropKey k) (seen (now (self .entry))) r (seen (now (self .exit))) ⌝ }
+        ensures counts { λ r. ⌜ Counts (seen (now (self .entry))) (now (self .entry) .catalog .calls) r (seen (now (self .exit))) (now (self .exit) .catalog .calls) ⌝ }
+        ensures memory { λ _. ⌜ now (self .exit) .memory ≡ now (self .entry) .memory ⌝ }
+    {
+        self.catalog.drop_key(k)
     }
 
-    fn sync_keys(&mut self) -> Result<(), Cause> {
-        Chains::sync_keys(self)
+    fn sync_keys(&mut self) -> Result<(), Cause>
+        ensures wrote { λ r. ⌜ Wrote SyncKeys (seen (now (self .entry))) r (seen (now (self .exit))) ⌝ }
+        ensures counts { λ r. ⌜ Counts (seen (now (self .entry))) (now (self .entry) .catalog .calls) r (seen (now (self .exit))) (now (self .exit) .catalog .calls) ⌝ }
+        ensures memory { λ _. ⌜ now (self .exit) .memory ≡ now (self .entry) .memory ⌝ }
+    {
+        self.catalog.sync_keys()
     }
 
     fn restart(&mut self, how: Restart) {

@@ -2,7 +2,7 @@
 ghost use mathlib.Core.Path.{_≡_};
 ghost use Rattle.store.specs.Built.{Counts};
 ghost use Rattle.store.specs.Disk.{Wrote};
-ghost use Rattle.store.specs.Disk.{Open, Append, Truncate, Sync, Remove, Put, DropKey, SyncKeys};
+ghost use Rattle.store.specs.Disk.{Open, Append, Truncate, Remove};
 ghost use Rattle.chains.specs.Made.{MadeRow};
 ghost use Rattle.chains.specs.Seen.{seen};
 ghost use Rattle.chains.specs.Untouched.{Untouched};
@@ -11,7 +11,6 @@ use crate::steps::extend;
 use crate::steps::placed;
 use crate::steps::shorten;
 use store::cause::Cause;
-use store::keys::Key;
 
 impl Chains {
     // Sees that blob b has a row. A new one is empty and has no sector, and false says that 64 are in use.
@@ -95,14 +94,6 @@ impl Chains {
         Ok(())
     }
 
-    pub fn sync(&mut self, b: u64) -> Result<(), Cause>
-        ensures wrote { λ r. ⌜ Wrote (Sync b) (seen (now (self .entry))) r (seen (now (self .exit))) ⌝ }
-        ensures counts { λ r. ⌜ Counts (seen (now (self .entry))) (now (self .entry) .catalog .calls) r (seen (now (self .exit))) (now (self .exit) .catalog .calls) ⌝ }
-        ensures memory { λ _. ⌜ now (self .exit) .memory ≡ now (self .entry) .memory ⌝ }
-    {
-        self.catalog.sync(b)
-    }
-
     // All its sectors are free again.
     pub fn remove(&mut self, b: u64) -> Result<(), Cause>
         ensures wrote { λ r. ⌜ Wrote (Remove b) (seen (now (self .entry))) r (seen (now (self .exit))) ⌝ }
@@ -122,29 +113,5 @@ impl Chains {
         self.catalog.table.remove(i);
         self.catalog.calls -= 1;
         Ok(())
-    }
-
-    pub fn put(&mut self, k: Key, v: u64) -> Result<(), Cause>
-        ensures wrote { λ r. ⌜ Wrote (Put k v) (seen (now (self .entry))) r (seen (now (self .exit))) ⌝ }
-        ensures counts { λ r. ⌜ Counts (seen (now (self .entry))) (now (self .entry) .catalog .calls) r (seen (now (self .exit))) (now (self .exit) .catalog .calls) ⌝ }
-        ensures memory { λ _. ⌜ now (self .exit) .memory ≡ now (self .entry) .memory ⌝ }
-    {
-        self.catalog.put(k, v)
-    }
-
-    pub fn drop_key(&mut self, k: Key) -> Result<(), Cause>
-        ensures wrote { λ r. ⌜ Wrote (DropKey k) (seen (now (self .entry))) r (seen (now (self .exit))) ⌝ }
-        ensures counts { λ r. ⌜ Counts (seen (now (self .entry))) (now (self .entry) .catalog .calls) r (seen (now (self .exit))) (now (self .exit) .catalog .calls) ⌝ }
-        ensures memory { λ _. ⌜ now (self .exit) .memory ≡ now (self .entry) .memory ⌝ }
-    {
-        self.catalog.drop_key(k)
-    }
-
-    pub fn sync_keys(&mut self) -> Result<(), Cause>
-        ensures wrote { λ r. ⌜ Wrote SyncKeys (seen (now (self .entry))) r (seen (now (self .exit))) ⌝ }
-        ensures counts { λ r. ⌜ Counts (seen (now (self .entry))) (now (self .entry) .catalog .calls) r (seen (now (self .exit))) (now (self .exit) .catalog .calls) ⌝ }
-        ensures memory { λ _. ⌜ now (self .exit) .memory ≡ now (self .entry) .memory ⌝ }
-    {
-        self.catalog.sync_keys()
     }
 }

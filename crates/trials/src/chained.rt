@@ -1,9 +1,11 @@
 // The chain store, on examples of its own.
 use chains::chains::Chains;
+use chains::stores::ChainsStore;
 use std::test::*;
 use store::cause::CauseDebug;
 use store::restart::Past;
 use store::restart::Restart;
+use store::store::Store;
 
 // Five sectors, so 240 bytes: two blobs fill them in turn, one gives a sector back, and the other takes it.
 #[test]

@@ -1,6 +1,6 @@
 use Rattle.chains.specs.Seen.{contentOf, roomIn}
 use Rattle.chains.proofs.Contents.{stands}
-use Rattle.chains.proofs.chains.Chains.key.Needs as need
+use Rattle.chains.proofs.stores.ChainsStore.key.Needs as need
 
 pub returns : need.returns
 returns c = let s = c .args .self .now in c .key .ensures (contentOf s) (roomIn (s .sectors)) (stands s)

@@ -1,7 +1,7 @@
 use mathlib.Core.Path.{refl}
 use Rattle.chains.specs.Seen.{contentOf, roomIn}
 use Rattle.chains.proofs.Contents.{stands}
-use Rattle.chains.proofs.chains.Chains.put.Needs as need
+use Rattle.chains.proofs.stores.ChainsStore.put.Needs as need
 
 pub returns : need.returns
 returns c =

@@ -5,7 +5,7 @@ use Rattle.chains.specs.Seen.{contentOf, roomIn}
 use Rattle.chains.proofs.Contents.{stands}
 use Rattle.chains.proofs.Covering.{chained, owed}
 use Rattle.chains.proofs.Changes.{chained-same}
-use Rattle.chains.proofs.chains.Chains.sync.Needs as need
+use Rattle.chains.proofs.stores.ChainsStore.sync.Needs as need
 
 pub ghost-self : need.ghost-self
 ghost-self c =
