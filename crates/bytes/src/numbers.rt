@@ -24,7 +24,8 @@ pub fn put_u16(out: &mut [u8], at: usize, n: u16)
     requires { ⌜ at + 2 ≤ length (now out) ⌝ }
     ensures { λ _. ⌜ now (out .exit) ≡ written (now (out .entry)) at (digits 2 n) ⌝ }
 {
-    put_bytes(out, at, &n.to_be_bytes());
+    let two = n.to_be_bytes();
+    put_bytes(out, at, &two);
 }
 
 // The same of four bytes.
@@ -32,7 +33,8 @@ pub fn put_u32(out: &mut [u8], at: usize, n: u32)
     requires { ⌜ at + 4 ≤ length (now out) ⌝ }
     ensures { λ _. ⌜ now (out .exit) ≡ written (now (out .entry)) at (digits 4 n) ⌝ }
 {
-    put_bytes(out, at, &n.to_be_bytes());
+    let four = n.to_be_bytes();
+    put_bytes(out, at, &four);
 }
 
 // The same of eight bytes.
@@ -40,7 +42,8 @@ pub fn put_u64(out: &mut [u8], at: usize, n: u64)
     requires { ⌜ at + 8 ≤ length (now out) ⌝ }
     ensures { λ _. ⌜ now (out .exit) ≡ written (now (out .entry)) at (digits 8 n) ⌝ }
 {
-    put_bytes(out, at, &n.to_be_bytes());
+    let eight = n.to_be_bytes();
+    put_bytes(out, at, &eight);
 }
 
 // The number that the two bytes from `at` on stand for.

@@ -19,7 +19,8 @@ use Rattle.store.specs.declared.keys.Keys.{Keys}
 use Rattle.rules.specs.Rules.{Config, blobOf, aligned, persist, firstIn, MAX, Plan, answer, calls, refuseIf, ItemPruned, ask, Layout, SizeOverflow}
 use Rattle.rules.specs.Calls.{Running, keysFirst, same, has, anchored, anchor, goes, lastBlob, truncating, openIf, publish-rule, upOneByOne, truncate-rule, truncated, trimmed-append-rule, trimmed-sync-rule, trimmed-prune-rule}
 use Rattle.rules.specs.Open.{Opened, noEdge}
-use Rattle.ledger.specs.Ledger.{Ledger, appended, entry, pruneTo, Prune}
+use Rattle.ledger.specs.History.{Prune}
+use Rattle.ledger.specs.Ledger.{Ledger, appended, entry, pruneTo}
 use Rattle.ledger.proofs.Blobs.{impossible}
 use Rattle.ledger.proofs.Invariant.{first, HintFree, Standing, stands, Empty, Safe, moved, first-low}
 use Rattle.ledger.proofs.Chain.{Chain, chain-append, chain-then, plain, chain-end}

@@ -16,7 +16,8 @@ use Rattle.rules.specs.Rules.{Config, MAX, Plan, Fault, answer, refuseIf, ItemP
 use Rattle.rules.specs.Open.{Opened, open-rule}
 use Rattle.rules.specs.Calls.{Running, truncate-rule, publish-rule, trimmed-append-rule, trimmed-sync-rule, trimmed-prune-rule, stage-rule, complete-rule, append-rule, commit-rule, sync-rule, prune-rule}
 use Rattle.rules.specs.Reads.{when}
-use Rattle.ledger.specs.Ledger.{Ledger, Call, Open, Append, Truncate, Publish, Prune, Clear, Commit, Sync, Complete, Leave, offers, gives, refusal, entry, Left, cut, cutting, appended, kept-to-end, pruneTo}
+use Rattle.ledger.specs.History.{Call, Open, Append, Truncate, Publish, Prune, Clear, Commit, Sync, Complete, Leave, offers, gives}
+use Rattle.ledger.specs.Ledger.{Ledger, refusal, entry, Left, cut, cutting, appended, kept-to-end, pruneTo}
 use Rattle.ledger.specs.Runs.{Log, fresh, over, opened, trimmed, staged, running, leaving, isLayout, packed, ruleOf}
 use Rattle.ledger.proofs.Blobs.{impossible}
 use Rattle.ledger.proofs.Invariant.{Staged, Safe, moved}

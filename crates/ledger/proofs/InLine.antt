@@ -4,6 +4,7 @@ use mathlib.Core.Path.{_≡_, refl, sym, ap, _∙_, subst}
 use mathlib.Core.Logic.{_⊎_, inl, inr}
 use mathlib.Core.Bool.{Bool, true, false}
 use mathlib.Core.List.{List, [], _∷_, _++_, map, reverse}
+use lib.ListN.{length}
 use lib.Dec.{ltb}
 use Rattle.std.proofs.shelf.Tests.{cond-both, cond-false}
 use Rattle.std.specs.declared.option.Option.{Option}
@@ -14,12 +15,14 @@ use Rattle.store.specs.Disk.{Blob, Blobs, Disk, View, find, numbers, Op, Open, 
 use Rattle.rules.specs.Rules.{Config, Plan, Fault, answer, refuse, ask, call, calls, refuseIf, persist, aligned, blobOf, badConfig, ItemPruned, Outcome, Follows}
 use Rattle.rules.specs.Open.{Opened}
 use Rattle.rules.specs.Calls.{truncating, truncated, truncate-rule, keysFirst, anchor, goes, lastBlob, count}
-use Rattle.ledger.specs.Ledger.{Ledger, Event, Called, Refused, Stopped}
-use Rattle.ledger.specs.Runs.{Log, fresh, over, opened, trimmed, staged, running, leaving, ruleOf, isLayout, endOf, Consecutive, Sized, Happened, InLine, InLineFor}
-use Rattle.ledger.specs.Ledger as ledger
+use Rattle.ledger.specs.History.{Event, Called, Refused, Stopped}
+use Rattle.ledger.specs.Ledger.{Ledger}
+use Rattle.ledger.specs.Runs.{Log, fresh, over, opened, trimmed, staged, running, leaving, ruleOf, isLayout, endOf, Consecutive, Happened, InLine, InLineFor}
+use Rattle.ledger.specs.History as hands
 use Rattle.ledger.proofs.Blobs.{impossible, never}
 use Rattle.ledger.proofs.Invariant.{Safe}
 use Rattle.ledger.proofs.States.{State, Spans, trimmed-spans, state-safe}
+use Rattle.ledger.proofs.Padded.{padded, padded-sized, as-padded}
 use Rattle.ledger.proofs.Law.{Sound, sound, holds, outcome}
 
 count-consecutive : (lo k : ℕ) → Consecutive (count lo k)
@@ -144,7 +147,7 @@ module _ {R : Type 0} (c : Config) (writes : R → List ℕ) (decodes : List ℕ
   spans-free l o d (a, e, inl k) = let f = k .stand .keys .target in (ap (λ (j : Keys). j .target) (k .now) ∙ f, f)
   spans-free l o d (a, e, inr b) = let f = b .empty .target in (ap (λ (j : Keys). j .target) (b .now) ∙ f, f)
 
-  given : (p : Plan Log) (k : Log) (l : Ledger R) (d : Disk) (m : ℕ) → State c writes k l d → ruleOf c writes decodes k d (ledger.Truncate m) ≡ Some p → TamePlan p × Free d
+  given : (p : Plan Log) (k : Log) (l : Ledger R) (d : Disk) (m : ℕ) → State c writes k l d → ruleOf c writes decodes k d (hands.Truncate m) ≡ Some p → TamePlan p × Free d
   given p fresh l d m s e = impossible cc
   given p over l d m s e = impossible cc
   given p (opened o) l d m s e = let i : leaving trimmed (truncate-rule c d o m) ≡ p = cc in (subst TamePlan i (tame-truncate c d o m), spans-free l o d s)
@@ -152,13 +155,13 @@ module _ {R : Type 0} (c : Config) (writes : R → List ℕ) (decodes : List ℕ
   given p (staged t) l d m s e = impossible cc
   given p (running r) l d m s e = impossible cc
 
-  in-line : badConfig c ≡ false → Sized c writes decodes → InLine c writes decodes
+  in-line : badConfig c ≡ false → ((r : R) → length (writes r) ≡ c .z) → InLine c writes decodes
   in-line good sized = record {
     unstaged = unstaged;
     truncated = λ es m e s l w h.
         let b = holds c writes decodes (so .n) (so .z) (so .page) sized es (h .0) (h .1) (h .4) in
         let g = given (h .2) (h .0) (b .ledger) (h .1 .disk) m (b .state) (h .5) in
-        unstaged (Called (ledger.Truncate m) e s ∷ es) l w h (follows-free (h .2) (h .1) w (h .3) (g .0) (g .1) (h .6));
+        unstaged (Called (hands.Truncate m) e s ∷ es) l w h (follows-free (h .2) (h .1) w (h .3) (g .0) (g .1) (h .6));
     published = λ es x s l w h.
         let b = holds c writes decodes (so .n) (so .z) (so .page) sized es (h .0) (h .1) (h .4) in
         let is : Stopped None ≡ endOf (h .3) = h .9 in
@@ -180,4 +183,11 @@ module _ {R : Type 0} (c : Config) (writes : R → List ℕ) (decodes : List ℕ
           safe-consecutive c writes (w .disk) (b .ledger) (state-safe c writes l (b .ledger) (w .disk) (b .state)) free
 
 pub in-line-stands : {R : Type 0} → InLineFor R
-in-line-stands c writes decodes good sized = in-line c writes decodes good sized
+in-line-stands c writes decodes good =
+    let so = in-line c (padded c writes) decodes good (padded-sized c writes) in
+    let pad = as-padded c writes decodes in
+    record {
+      unstaged = λ es l w h. so .unstaged es l w (pad es l w h);
+      truncated = λ es m e s l w h. so .truncated es m e s l w (pad (Called (hands.Truncate m) e s ∷ es) l w h);
+      published = λ es x s l w h. so .published es x s l w (pad (Called x (Stopped None) s ∷ es) l w h);
+    }

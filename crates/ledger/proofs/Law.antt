@@ -14,15 +14,20 @@ use Rattle.std.specs.declared.option.Option.the-variants.{None, Some}
 use Rattle.store.specs.Disk.{Blob, Blobs, View, find, Restarted}
 use Rattle.store.specs.Laws.{AllWhole, Lawful}
 use Rattle.rules.specs.Rules.{Plan, Follows, Config, badConfig, Outcome}
-use Rattle.ledger.specs.Ledger.{Ledger, first, Call, Open, Append, Truncate, Publish, Prune, Clear, Commit, Sync, Complete, Leave, End, Done, Refused, Stopped, Event, Restart, Called, Read, offers, after, inHand, Ends, shown, Agrees}
-use Rattle.ledger.specs.Runs.{Log, fresh, over, opened, trimmed, staged, running, spanOf, isLayout, endOf, logAfter, ruleOf, Happened, Sized, ReadBack, HandsIn, handedIn, Law}
-use Rattle.ledger.specs.Ledger as hands
+use Rattle.ledger.specs.History.{Call, Open, Append, Truncate, Publish, Prune, Clear, Commit, Sync, Complete, Leave, End, Done, Refused, Stopped, Event, Restart, Called, Read, offers, after, inHand}
+use Rattle.ledger.specs.Ledger.{Ledger, first}
+use Rattle.ledger.specs.Promises.{Ends, shown, Agrees}
+use Rattle.ledger.specs.Runs.{Log, fresh, over, opened, trimmed, staged, running, spanOf, isLayout, endOf, logAfter, ruleOf, Happened, Records, HandsIn, handedIn, Law}
+use Rattle.ledger.specs.History as hands
+use Rattle.ledger.specs.Promises as promises
+use Rattle.ledger.specs.Ledger as book
 use Rattle.ledger.proofs.Blobs.{impossible, never}
 use Rattle.ledger.proofs.Weakening.{safe-restarted, restart-falls, new-rests}
 use Rattle.ledger.proofs.Follow.{Answered, Turned, Halted, follows-leads}
 use Rattle.ledger.proofs.Opens.{Small}
 use Rattle.ledger.proofs.Readings.{Backs}
 use Rattle.ledger.proofs.States.{handOf, Up, up-for, handedBack, back-hand, State, state-safe, safe-kept-far, state-span, state-reads}
+use Rattle.ledger.proofs.Padded.{padded, padded-sized, as-padded}
 use Rattle.ledger.proofs.Events.{Stops, Dones, Faults, stops-closed, rule-event}
 
 small : (bs : Blobs) → AllWhole bs → Small bs
@@ -60,33 +65,33 @@ up-offered (running r) x v e u = u
 -- what is handed in is read back ---------------------------------------------------------------
 
 module _ {R : Type 0} (c : Config) (writes : R → List ℕ) (decodes : List ℕ → Option R) where
-  entered-backs : (rs : List R) (e : ℕ) (handed : ℕ → Option R) → ReadBack c writes decodes rs → Backs writes decodes handed → Backs writes decodes (hands.entered e rs handed)
+  entered-backs : (rs : List R) (e : ℕ) (handed : ℕ → Option R) → Records c writes decodes rs → Backs writes decodes handed → Backs writes decodes (book.entered e rs handed)
   entered-backs [] e handed k b p r h = b p r h
   entered-backs (q ∷ rs) e handed k b p r h = elim (cases-bool (eqb p e)) [
     | inl i ↦
-        let is : Some q ≡ Some r = sym (cond-true (eqb p e) (Some q) (hands.entered (e + 1) rs handed p) i) ∙ h in
+        let is : Some q ≡ Some r = sym (cond-true (eqb p e) (Some q) (book.entered (e + 1) rs handed p) i) ∙ h in
         let same : q ≡ r = cc in
-        subst (λ (u : R). decodes (writes u) ≡ Some u) same (k .0)
-    | inr i ↦ entered-backs rs (e + 1) handed (k .1) b p r (sym (cond-false (eqb p e) (Some q) (hands.entered (e + 1) rs handed p) i) ∙ h)
+        subst (λ (u : R). decodes (writes u) ≡ Some u) same (k .1)
+    | inr i ↦ entered-backs rs (e + 1) handed (k .2) b p r (sym (cond-false (eqb p e) (Some q) (book.entered (e + 1) rs handed p) i) ∙ h)
   ]
 
   module _ (l : Ledger R) where
     abbrev Fine : Ledger R → Type 0
     Fine m = Backs writes decodes (m .handed)
 
-    entry-backs : (x : Call R) → ReadBack c writes decodes (handedIn x) → Fine l → Fine (hands.entry c l x)
+    entry-backs : (x : Call R) → Records c writes decodes (handedIn x) → Fine l → Fine (book.entry c l x)
     entry-backs (Open o) k b = b
     entry-backs (Append rs n) k b = entered-backs rs (l .end) (l .handed) k b
     entry-backs (Truncate m) k b = b
     entry-backs (Publish m) k b = b
-    entry-backs (Prune p) k b = cond-both (ltb (l .start) (hands.pruneTo c l p)) (hands.kept-to-end l (hands.pruneTo c l p)) l Fine (λ e. b) (λ e. b)
+    entry-backs (Prune p) k b = cond-both (ltb (l .start) (book.pruneTo c l p)) (book.kept-to-end l (book.pruneTo c l p)) l Fine (λ e. b) (λ e. b)
     entry-backs (Clear t) k b = b
     entry-backs Commit k b = b
     entry-backs Sync k b = b
     entry-backs Complete k b = b
     entry-backs Leave k b = b
 
-    left-backs : (x : Call R) (m : Ledger R) → hands.Left c l x m → ReadBack c writes decodes (handedIn x) → Fine l → Fine m
+    left-backs : (x : Call R) (m : Ledger R) → book.Left c l x m → Records c writes decodes (handedIn x) → Fine l → Fine m
     left-backs (Open o) m e k b = subst Fine (sym e) b
     left-backs (Append rs n) m e k b = subst Fine (sym e) (entered-backs rs (l .end) (l .handed) k b)
     left-backs (Truncate n) m e k b = subst Fine (sym e) b
@@ -102,7 +107,7 @@ module _ {R : Type 0} (c : Config) (writes : R → List ℕ) (decodes : List ℕ
 
 -- the induction ---------------------------------------------------------------------------------
 
-module _ {R : Type 0} (c : Config) (writes : R → List ℕ) (decodes : List ℕ → Option R) (np : 0 < c .n) (zp : 0 < c .z) (pp : 0 < c .page) (sized : Sized c writes decodes) where
+module _ {R : Type 0} (c : Config) (writes : R → List ℕ) (decodes : List ℕ → Option R) (np : 0 < c .n) (zp : 0 < c .z) (pp : 0 < c .page) (sized : (r : R) → length (writes r) ≡ c .z) where
   -- what holds of the events so far, the log in hand and the store
   pub record Holds (es : List (Event R)) (k : Log) (w : View) : Type 0 where
     pub ledger : Ledger R
@@ -156,7 +161,7 @@ module _ {R : Type 0} (c : Config) (writes : R → List ℕ) (decodes : List ℕ
         → Holds (Called x e s ∷ es) n w
     called r ee nn (inl a) =
         let is = ee ∙ ap endOf (a .is) in
-        ends Done (a .it) is (nn ∙ ap (λ (u : Outcome Log). logAfter k u) (a .is)) (hands.entry c (h .ledger) x) (a .holds .clear, refl, (a .ops, a .made)) (a .holds .state) (up-for (a .it) w (a .up)) (a .holds .hand)
+        ends Done (a .it) is (nn ∙ ap (λ (u : Outcome Log). logAfter k u) (a .is)) (book.entry c (h .ledger) x) (a .holds .clear, refl, (a .ops, a .made)) (a .holds .state) (up-for (a .it) w (a .up)) (a .holds .hand)
         (entry-backs c writes decodes (h .ledger) x (subst (λ (u : End). HandsIn c writes decodes x u) is packed) (h .backs))
     called r ee nn (inr (inl a)) =
         ends (Refused (a .fault)) (handedBack k) (ee ∙ (ap endOf (a .is) ∙ cond-false (isLayout (a .fault)) (Stopped None) (Refused (a .fault)) (a .holds .plain)))
@@ -201,7 +206,7 @@ module _ {R : Type 0} (c : Config) (writes : R → List ℕ) (decodes : List ℕ
       let r = state-reads c writes decodes sized (h .ledger) w (h .backs) n s q (h .up) (h .state) span in
       record {
         ledger = h .ledger;
-        agrees = (h .agrees, ap (λ (g : hands.Hand). hands.isLog g) (h .hand) ∙ r .0, subst (λ (u : hands.Answer R). hands.Reads c (h .ledger) w q u) (sym is) (r .1));
+        agrees = (h .agrees, ap (λ (g : hands.Hand). hands.isLog g) (h .hand) ∙ r .0, subst (λ (u : hands.Answer R). promises.Reads c (h .ledger) w q u) (sym is) (r .1));
         state = h .state;
         up = h .up;
         hand = h .hand;
@@ -226,7 +231,7 @@ sound c good =
     record { n = omega arith; page = omega arith; z = omega arith }
 
 pub law-stands : {R : Type 0} (c : Config) (writes : R → List ℕ) (decodes : List ℕ → Option R) → Law c writes decodes
-law-stands c writes decodes good sized es k w happened =
+law-stands c writes decodes good es k w happened =
     let s = sound c good in
-    let h = holds c writes decodes (s .n) (s .z) (s .page) sized es k w happened in
+    let h = holds c (padded c writes) decodes (s .n) (s .z) (s .page) (padded-sized c writes) es k w (as-padded c writes decodes es k w happened) in
     (h .ledger, h .agrees)

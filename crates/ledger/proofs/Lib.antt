@@ -33,6 +33,7 @@ pub mod Rests
 -- the induction over histories
 pub mod States
 pub mod Events
+pub mod Padded
 pub mod Law
 pub mod InLine
 pub mod Useless

@@ -21,8 +21,10 @@ use Rattle.store.specs.declared.cause.Cause.{Cause}
 use Rattle.store.specs.Disk.{Blob, Blobs, View, find}
 use Rattle.rules.specs.Rules.{Config, firstIn, Fault, answered}
 use Rattle.rules.specs.Reads.{when, falling, outside, lacking, bytesOf, Copy, copied, Reading, decoded, reading, unless, ended}
-use Rattle.ledger.specs.Ledger.{Ledger, Ask, One, Many, Reads, denial}
-use Rattle.ledger.specs.Runs.{ReadBack, readBy, told}
+use Rattle.ledger.specs.History.{Ask, One, Many}
+use Rattle.ledger.specs.Ledger.{Ledger, denial}
+use Rattle.ledger.specs.Promises.{Reads}
+use Rattle.ledger.specs.Runs.{Records, readBy, told}
 use Rattle.ledger.proofs.Blobs.{looked, impossible, listed-find, found-listed}
 use Rattle.ledger.proofs.Invariant.{first, room, first-is, first-room, first-apart, Rows, Held}
 
@@ -132,7 +134,7 @@ module _ {R : Type 0} (c : Config) (enc : R → List ℕ) (decodes : List ℕ �
     pub bytes : copied c s v ps ≡ record { bytes = joined enc records; stop = None }
     pub are : map Some records ≡ map handed ps
     pub as-many : length records ≡ length ps
-    pub backs : ReadBack c enc decodes records
+    pub backs : Records c enc decodes records
 
   pub copied-all : (s e : ℕ) (v : View) (handed : ℕ → Option R) → Backs enc decodes handed → ((p : ℕ) → s ≤ p → p < e → Good c enc s v handed p) → (ps : List ℕ) → Inside-all s e ps → Copied-all s v handed ps
   copied-all s e v handed back each [] i = record { records = []; bytes = refl; are = refl; as-many = refl; backs = tt }
@@ -144,20 +146,20 @@ module _ {R : Type 0} (c : Config) (enc : R → List ℕ) (decodes : List ℕ �
         bytes = ap (λ (o : Result (List ℕ) Cause). Rattle.rules.specs.Reads.more c p o (copied c s v ps)) (g .reads) ∙ ap (λ (o : Copy). Rattle.rules.specs.Reads.more c p (Ok (enc (g .given))) o) (r .bytes);
         are = let a = g .was in let b = r .are in cc;
         as-many = let a = r .as-many in omega arith;
-        backs = (back p (g .given) (g .was), r .backs);
+        backs = (ez (g .given), back p (g .given) (g .was), r .backs);
       }
 
-  pub decoded-all : (all : List ℕ) (rs : List R) (ps : List ℕ) → length rs ≡ length ps → ReadBack c enc decodes rs → decoded decodes c all (joined enc rs) ps ≡ record { bytes = all; records = rs; outcome = answered tt }
+  pub decoded-all : (all : List ℕ) (rs : List R) (ps : List ℕ) → length rs ≡ length ps → Records c enc decodes rs → decoded decodes c all (joined enc rs) ps ≡ record { bytes = all; records = rs; outcome = answered tt }
   decoded-all all [] [] e k = refl
   decoded-all all [] (p ∷ ps) e k = absurd (omega arith)
   decoded-all all (r ∷ rs) [] e k = absurd (omega arith)
   decoded-all all (r ∷ rs) (p ∷ ps) e k =
-      let ih = decoded-all all rs ps (omega arith) (k .1) in
+      let ih = decoded-all all rs ps (omega arith) (k .2) in
       let z = ez r in
       let a : take (c .z) (enc r ++ joined enc rs) ≡ enc r = take-append-le (c .z) (enc r) (joined enc rs) (omega arith) ∙ take-all (c .z) (enc r) (omega arith) in
       let b : drop (c .z) (enc r ++ joined enc rs) ≡ joined enc rs = ap (λ (j : ℕ). drop j (enc r ++ joined enc rs)) (sym z) ∙ drop-past (enc r) (joined enc rs) in
       ap (λ (u : List ℕ). Rattle.rules.specs.Reads.onto decodes all p (decodes u) (decoded decodes c all (drop (c .z) (enc r ++ joined enc rs)) ps)) a
-      ∙ (ap (λ (o : Option R). Rattle.rules.specs.Reads.onto decodes all p o (decoded decodes c all (drop (c .z) (enc r ++ joined enc rs)) ps)) (k .0)
+      ∙ (ap (λ (o : Option R). Rattle.rules.specs.Reads.onto decodes all p o (decoded decodes c all (drop (c .z) (enc r ++ joined enc rs)) ps)) (k .1)
       ∙ (ap (λ (u : List ℕ). Rattle.rules.specs.Reads.onto decodes all p (Some r) (decoded decodes c all u ps)) b
       ∙ ap (λ (o : Reading R). Rattle.rules.specs.Reads.onto decodes all p (Some r) o) ih))
     where
@@ -176,7 +178,7 @@ module _ {R : Type 0} (c : Config) (enc : R → List ℕ) (decodes : List ℕ �
       )
 
   -- the answer of a read is as the ledger says
-  answers : (l : Ledger R) (v : View) (q : Ask) (ps : List ℕ) → Rattle.ledger.specs.Ledger.positions q ≡ ps → Backs enc decodes (l .handed) → ((p : ℕ) → l .start ≤ p → p < l .end → Good c enc (l .start) v (l .handed) p)
+  answers : (l : Ledger R) (v : View) (q : Ask) (ps : List ℕ) → Rattle.ledger.specs.Promises.positions q ≡ ps → Backs enc decodes (l .handed) → ((p : ℕ) → l .start ≤ p → p < l .end → Good c enc (l .start) v (l .handed) p)
       → (denial c l q ≡ None → Inside-all (l .start) (l .end) ps) → Reads c l v q (told c enc decodes (unless decodes (denial c l q) (reading decodes c (l .start) v ps)))
   answers l v q ps is back each inside = go (looked (denial c l q))
     where

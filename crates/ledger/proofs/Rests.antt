@@ -14,7 +14,8 @@ use Rattle.store.specs.declared.keys.Keys.{Keys}
 use Rattle.rules.specs.Rules.{Config, MAX, blobOf, aligned, Plan, Fault, answer, refuse, ask, refuseIf, Corruption, ItemPruned, clearing}
 use Rattle.rules.specs.Open.{Opened, noEdge, weigh, open-rule, edgeAt, orMax, isBelow}
 use Rattle.rules.specs.Open as open-rules
-use Rattle.ledger.specs.Ledger.{Ledger, Open, lower, refusal, entry}
+use Rattle.ledger.specs.History.{Open}
+use Rattle.ledger.specs.Ledger.{Ledger, lower, refusal, entry}
 use Rattle.ledger.proofs.Blobs.{impossible}
 use Rattle.ledger.proofs.Invariant.{Still, KeysStand, HintFree, Stands, stands, Empty, Staged, Safe, moved}
 use Rattle.ledger.proofs.Reach.{reachOf}

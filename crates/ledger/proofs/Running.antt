@@ -13,7 +13,8 @@ use Rattle.store.specs.Disk.{Disk, View, Op, Remove}
 use Rattle.rules.specs.Rules.{Config, blobOf, persist, Plan, answer, calls}
 use Rattle.rules.specs.Calls.{Running, committing, from, commit-rule, sync-rule, prune-rule, count}
 use Rattle.rules.specs.Open.{Opened}
-use Rattle.ledger.specs.Ledger.{Ledger, entry, Prune}
+use Rattle.ledger.specs.History.{Prune}
+use Rattle.ledger.specs.Ledger.{Ledger, entry}
 use Rattle.ledger.proofs.Invariant.{moved, rows-apart}
 use Rattle.ledger.proofs.Chain.{Chain, chain-then}
 use Rattle.ledger.proofs.Prunes.{PruneStops, Pruned, prune-chain}

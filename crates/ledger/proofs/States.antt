@@ -11,9 +11,11 @@ use Rattle.std.specs.declared.option.Option.the-variants.{Some}
 use Rattle.store.specs.Disk.{Disk, View}
 use Rattle.rules.specs.Rules.{Config}
 use Rattle.rules.specs.Open.{Opened}
-use Rattle.ledger.specs.Ledger.{Ledger, Hand, Ask, Reads, shown}
+use Rattle.ledger.specs.History.{Hand, Ask}
+use Rattle.ledger.specs.Ledger.{Ledger}
+use Rattle.ledger.specs.Promises.{Reads, shown}
 use Rattle.ledger.specs.Runs.{Log, fresh, over, opened, trimmed, staged, running, onLog, spanOf, readBy}
-use Rattle.ledger.specs.Ledger as hands
+use Rattle.ledger.specs.History as hands
 use Rattle.ledger.proofs.Blobs.{impossible}
 use Rattle.ledger.proofs.Invariant.{stands, Staged, Safe}
 use Rattle.ledger.proofs.Weakening.{Rest, rest-safe}

@@ -16,7 +16,8 @@ use Rattle.store.specs.Disk.{Blobs, Disk, find, numbers, Op, Open, Append, Sync
 use Rattle.rules.specs.Rules.{Config, blobOf, aligned, persist, MAX, Plan, answer, calls, SizeOverflow, clearing, staging}
 use Rattle.rules.specs.Calls.{has, upTo, openIf, trimmed-append-rule, trimmed-sync-rule, trimmed-prune-rule, complete-rule, stage-rule}
 use Rattle.rules.specs.Open.{Opened, noEdge}
-use Rattle.ledger.specs.Ledger.{Ledger, appended, entry, Prune}
+use Rattle.ledger.specs.History.{Prune}
+use Rattle.ledger.specs.Ledger.{Ledger, appended, entry}
 use Rattle.ledger.proofs.Blobs.{impossible}
 use Rattle.ledger.proofs.Invariant.{first, stands, Staged, Safe, moved, first-low}
 use Rattle.ledger.proofs.Chain.{chain-then}

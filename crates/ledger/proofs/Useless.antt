@@ -18,7 +18,9 @@ use Rattle.store.specs.Laws.{Rising, Below, Whole, AllWhole, KeysFit, Lawful}
 use Rattle.store.proofs.Keyed.{none-fit, keyed-fit}
 use Rattle.rules.specs.Rules.{Fault, answered, stopped, Wrote}
 use Rattle.rules.specs.Open.{Opened, noEdge}
-use Rattle.ledger.specs.Ledger.{Ledger, Called, Read, Open, Append, Commit, Publish, Done, Refused, Stopped, One, Gave, Agrees, entry, refusal, first, bounds}
+use Rattle.ledger.specs.History.{Called, Read, Open, Append, Commit, Publish, Done, Refused, Stopped, One, Gave}
+use Rattle.ledger.specs.Ledger.{Ledger, entry, refusal, first, bounds}
+use Rattle.ledger.specs.Promises.{Agrees}
 use Rattle.ledger.specs.Useless.{four, begun, given, Useless, Taken, on, v0, v1, v2, v3, v4, l2, writes, decodes, lived}
 use Rattle.ledger.specs.Runs.{fresh, over, opened, running, Happened}
 use Rattle.ledger.proofs.Blobs.{never}
@@ -295,7 +297,7 @@ given-happened = (
   refl,
   inl (v2, (refl, refl, refl, refl, refl), (refl, refl)),
   lawful-one (writes 7) 2 0 6 true (omega arith) (omega arith) (omega arith),
-  (refl, tt),
+  (refl, refl, tt),
   refl,
   refl,
   refl,

@@ -1,18 +1,16 @@
--- The ledger of a log begun on a new store, and what it promises of every list of calls.
+-- The ledger of a log begun on a new store: what it holds, and what each call makes of it.
 use Prim.Native.Nat.{ℕ, _+_, _*_, _/_, min, _≤_, _<_}
 use mathlib.Core.Path.{_≡_}
 use mathlib.Core.Logic.{_⊎_}
-use mathlib.Core.Bool.{Bool, true, false, cond, _||_}
-use mathlib.Core.List.{List, [], _∷_, map}
+use mathlib.Core.Bool.{cond}
+use mathlib.Core.List.{List, [], _∷_}
 use lib.ListN.{length}
 use lib.Dec.{eqb, ltb, leb}
 use Rattle.std.specs.declared.option.Option.{Option}
 use Rattle.std.specs.declared.option.Option.the-variants.{None, Some}
-use Rattle.store.specs.declared.cause.Cause.{Cause}
-use Rattle.store.specs.declared.cause.Cause.the-variants.{Power, NoRoom}
-use Rattle.store.specs.Disk.{View, Op, Made, Restarted, New}
 use Rattle.rules.specs.Rules.{Config, MAX, Fault, ItemPruned, SizeOverflow, EmptyAppend}
 use Rattle.rules.specs.Reads.{when, lacking, one-denied, many-denied}
+use Rattle.ledger.specs.History.{Call, Open, Append, Truncate, Publish, Prune, Clear, Commit, Sync, Complete, Leave, Ask, One, Many}
 
 -- handed: the record last handed in for each position
 pub record Ledger (R : Type 0) : Type 0 where
@@ -21,107 +19,6 @@ pub record Ledger (R : Type 0) : Type 0 where
   pub kept : ℕ
   pub far : ℕ
   pub handed : ℕ → Option R
-
--- Open has the ceiling, if any; Append the records, and how many bytes are lent to pack them; Clear stages one, to be completed or left
-pub data Call (R : Type 0) : Type 0 where
-  Open : Option ℕ → Call R
-  Append : List R → ℕ → Call R
-  Truncate Publish Prune Clear : ℕ → Call R
-  Commit Sync Complete Leave : Call R
-
--- stopped by the store for a cause, or for none: the blobs were not consecutive to the tail
-pub data End : Type 0 where
-  Done : End
-  Refused : Fault → End
-  Stopped : Option Cause → End
-
--- one position; or several, and how many bytes and records are lent for them
-pub data Ask : Type 0 where
-  One : ℕ → Ask
-  Many : List ℕ → ℕ → ℕ → Ask
-
-pub data Answer (R : Type 0) : Type 0 where
-  Gave : List R → Answer R
-  Denied : Fault → Answer R
-  Failed : Cause → Answer R
-
--- Called has the span of the log in hand after it
-pub data Event (R : Type 0) : Type 0 where
-  Restart : Event R
-  Called : Call R → End → Option (ℕ × ℕ) → Event R
-  Read : Ask → Answer R → Event R
-
--- the log in hand -------------------------------------------------------------------------------
-
--- what it offers: open; truncate, publish and clear; append, sync and prune; commit; complete and leave
-pub record Hand : Type 0 where
-  pub opens : Bool
-  pub recovers : Bool
-  pub grows : Bool
-  pub runs : Bool
-  pub completes : Bool
-
-abbrev pub hand : Bool → Bool → Bool → Bool → Bool → Hand
-hand o r g u c = record { opens = o; recovers = r; grows = g; runs = u; completes = c }
-
-abbrev pub fresh : Hand
-fresh = hand true false false false false
-
-abbrev pub opened : Hand
-opened = hand false true false false false
-
-abbrev pub trimmed : Hand
-trimmed = hand false true true false false
-
-abbrev pub running : Hand
-running = hand false false true true false
-
-abbrev pub staged : Hand
-staged = hand false false false false true
-
-abbrev pub over : Hand
-over = hand false false false false false
-
-abbrev pub isLog : Hand → Bool
-isLog h = h .recovers || h .runs
-
-module _ {R : Type 0} where
-  abbrev pub offers : Hand → Call R → Bool
-  offers h (Open o) = h .opens
-  offers h (Append rs n) = h .grows
-  offers h (Truncate m) = h .recovers
-  offers h (Publish m) = h .recovers
-  offers h (Prune p) = h .grows
-  offers h (Clear t) = h .recovers
-  offers h Commit = h .runs
-  offers h Sync = h .grows
-  offers h Complete = h .completes
-  offers h Leave = h .completes
-
-  abbrev pub gives : Hand → Call R → Hand
-  gives h (Open o) = opened
-  gives h (Append rs n) = h
-  gives h (Truncate m) = trimmed
-  gives h (Publish m) = running
-  gives h (Prune p) = h
-  gives h (Clear t) = staged
-  gives h Commit = h
-  gives h Sync = h
-  gives h Complete = trimmed
-  gives h Leave = over
-
-  -- a refused open leaves no log, another refused call hands it back, a stopped one ends it
-  abbrev pub after : Hand → Call R → End → Hand
-  after h k Done = gives h k
-  after h k (Refused f) = cond (h .opens) over h
-  after h k (Stopped s) = over
-
-  -- of a list of events, newest first
-  abbrev pub inHand : List (Event R) → Hand
-  inHand [] = fresh
-  inHand (Restart ∷ es) = fresh
-  inHand (Called k e s ∷ es) = after (inHand es) k e
-  inHand (Read q a ∷ es) = inHand es
 
 -- refusals --------------------------------------------------------------------------------------
 
@@ -213,44 +110,3 @@ module _ {R : Type 0} where
   -- the far end that a restart leaves
   abbrev pub Falls : Ledger R → Ledger R → Type 0
   Falls l m = (f : ℕ) × (l .kept ≤ f) × (f ≤ l .far) × (m ≡ bounds l (l .start) (l .end) (l .kept) f)
-
--- the promises ----------------------------------------------------------------------------------
-
--- writing calls, all done
-abbrev pub AllDone : View → View → Type 0
-AllDone v w = (ops : List Op) × Made ops v None w
-
-abbrev pub positions : Ask → List ℕ
-positions (One p) = p ∷ []
-positions (Many ps bytes recs) = ps
-
-module _ {R : Type 0} where
-  -- only the store stops a call, for want of power or of room; and publish may find its blobs out of line
-  abbrev pub StoppedBy : Option Cause → Call R → View → View → Type 0
-  StoppedBy (Some y) k v w = ((y ≡ Power) ⊎ (y ≡ NoRoom)) × ((ops : List Op) × (o : Op) × Made ops v (Some (o, y)) w)
-  StoppedBy None k v w = ((m : ℕ) × (k ≡ Publish m)) × AllDone v w
-
-  -- how a call ends on a store that it takes from v to w; an open alone may be stopped before it is refused, by a clear that it completes
-  abbrev pub Ends : Config → Ledger R → Call R → End → View → View → Ledger R → Type 0
-  Ends c l k Done v w m = (refusal c l k ≡ None) × (m ≡ entry c l k) × AllDone v w
-  Ends c l k (Refused f) v w m = (refusal c l k ≡ Some f) × (m ≡ l) × AllDone v w
-  Ends c l k (Stopped s) v w m = ((refusal c l k ≡ None) ⊎ ((o : Option ℕ) × (k ≡ Open o))) × Left c l k m × StoppedBy s k v w
-
-  -- a log's span is the ledger's
-  abbrev pub shown : Hand → Ledger R → Option (ℕ × ℕ)
-  shown h l = cond (isLog h) (Some (l .start, l .end)) None
-
-  -- each position reads the record last handed in for it, while the store is up
-  abbrev pub Reads : Config → Ledger R → View → Ask → Answer R → Type 0
-  Reads c l v q (Gave rs) = (denial c l q ≡ None) × (map Some rs ≡ map (l .handed) (positions q))
-  Reads c l v q (Denied f) = denial c l q ≡ Some f
-  Reads c l v q (Failed y) = (v .up ≡ false) × (y ≡ Power)
-
-  -- events, newest first, the store as it then is, and the ledger that they come to
-  abbrev pub Agrees : Config → List (Event R) → View → Ledger R → Type 0
-  Agrees c [] w m = New w × (m ≡ first)
-  Agrees c (Restart ∷ es) w m = (v : View) × (l : Ledger R) × Agrees c es v l × Restarted v w × Falls l m
-  Agrees c (Called k e s ∷ es) w m =
-      (v : View) × (l : Ledger R) × Agrees c es v l × (offers (inHand es) k ≡ true) × Ends c l k e v w m
-      × (s ≡ shown (after (inHand es) k e) m) × (m .kept ≤ m .far)
-  Agrees c (Read q a ∷ es) w m = Agrees c es w m × (isLog (inHand es) ≡ true) × Reads c m w q a

@@ -14,7 +14,9 @@ use Rattle.rules.specs.Rules.{Plan, answer, refuse, ask, call, refuseIf, Outcom
 use Rattle.rules.specs.Open.{Opened, open-rule}
 use Rattle.rules.specs.Calls.{Running, truncate-rule, publish-rule, trimmed-append-rule, trimmed-sync-rule, trimmed-prune-rule, stage-rule, complete-rule, append-rule, commit-rule, sync-rule, prune-rule}
 use Rattle.rules.specs.Reads.{Reading, read-rule, read-many-rule}
-use Rattle.ledger.specs.Ledger.{Ledger, Call, Open, Append, Truncate, Publish, Prune, Clear, Commit, Sync, Complete, Leave, End, Done, Refused, Stopped, Ask, One, Many, Answer, Gave, Denied, Failed, Event, Restart, Called, Read, Agrees}
+use Rattle.ledger.specs.History.{Call, Open, Append, Truncate, Publish, Prune, Clear, Commit, Sync, Complete, Leave, End, Done, Refused, Stopped, Ask, One, Many, Answer, Gave, Denied, Failed, Event, Restart, Called, Read}
+use Rattle.ledger.specs.Ledger.{Ledger}
+use Rattle.ledger.specs.Promises.{Agrees}
 
 -- the log in hand: none before an open, none after its end
 pub data Log : Type 0 where
@@ -125,16 +127,16 @@ module _ {R : Type 0} (c : Config) (writes : R → List ℕ) (decodes : List ℕ
   readBy s v (One p) = told (read-rule decodes c (s .0) (s .1) v p)
   readBy s v (Many ps bytes recs) = told (read-many-rule decodes c (s .0) (s .1) v ps bytes recs)
 
-  -- records that are read as they were written
-  abbrev pub ReadBack : List R → Type 0
-  ReadBack [] = Unit {0}
-  ReadBack (r ∷ rs) = (decodes (writes r) ≡ Some r) × ReadBack rs
+  -- records that have their Z bytes and are read as they were written
+  abbrev pub Records : List R → Type 0
+  Records [] = Unit {0}
+  Records (r ∷ rs) = (length (writes r) ≡ c .z) × (decodes (writes r) ≡ Some r) × Records rs
 
   -- so are those that a call hands in, unless it is refused
   abbrev pub HandsIn : Call R → End → Type 0
-  HandsIn x Done = ReadBack (handedIn x)
+  HandsIn x Done = Records (handedIn x)
   HandsIn x (Refused f) = Unit {0}
-  HandsIn x (Stopped y) = ReadBack (handedIn x)
+  HandsIn x (Stopped y) = Records (handedIn x)
 
   -- events, newest first, with the log in hand and the store that they leave, whose view always has the laws of a store
   abbrev pub Happened : List (Event R) → Log → View → Type 0
@@ -145,12 +147,9 @@ module _ {R : Type 0} (c : Config) (writes : R → List ℕ) (decodes : List ℕ
       × HandsIn x e × (e ≡ endOf r) × (l ≡ logAfter k r) × (s ≡ spanOf l)
   Happened (Read q a ∷ es) l w = (s : ℕ × ℕ) × Happened es l w × (spanOf l ≡ Some s) × (a ≡ readBy s w q)
 
-  -- each record has its Z bytes
-  abbrev pub Sized : Type 0
-  Sized = (r : R) → length (writes r) ≡ c .z
-
+  -- whatever happens with an accepted configuration, some ledger agrees with it
   abbrev pub Law : Type 0
-  Law = badConfig c ≡ false → Sized → (es : List (Event R)) (l : Log) (w : View) → Happened es l w → (m : Ledger R) × Agrees c es w m
+  Law = badConfig c ≡ false → (es : List (Event R)) (l : Log) (w : View) → Happened es l w → (m : Ledger R) × Agrees c es w m
 
   -- whatever was done, refused or stopped, the blobs are numbered one after the other, unless a clear is staged
   pub record InLine : Type 0 where
@@ -165,4 +164,4 @@ abbrev pub LawFor : Type 0 → Type 0
 LawFor R = (c : Config) (writes : R → List ℕ) (decodes : List ℕ → Option R) → Law c writes decodes
 
 abbrev pub InLineFor : Type 0 → Type 0
-InLineFor R = (c : Config) (writes : R → List ℕ) (decodes : List ℕ → Option R) → badConfig c ≡ false → Sized c writes decodes → InLine c writes decodes
+InLineFor R = (c : Config) (writes : R → List ℕ) (decodes : List ℕ → Option R) → badConfig c ≡ false → InLine c writes decodes

@@ -11,7 +11,9 @@ use Rattle.store.specs.declared.keys.Key.the-variants.{Hint, Watermark}
 use Rattle.store.specs.Disk.{View, Disk, Op, DropKey, Put, SyncKeys, Made, noKeys, done, doneAll}
 use Rattle.rules.specs.Rules.{Config, Fault}
 use Rattle.rules.specs.Open.{noEdge}
-use Rattle.ledger.specs.Ledger.{Ledger, Event, Called, Read, Restart, Open, Append, Commit, Publish, Done, Refused, Stopped, One, Gave, Failed, Agrees, entry, first, bounds}
+use Rattle.ledger.specs.History.{Event, Called, Read, Restart, Open, Append, Commit, Publish, Done, Refused, Stopped, One, Gave, Failed}
+use Rattle.ledger.specs.Ledger.{Ledger, entry, first, bounds}
+use Rattle.ledger.specs.Promises.{Agrees}
 use Rattle.ledger.specs.Runs.{opened, Happened}
 
 -- four records of two bytes to a blob

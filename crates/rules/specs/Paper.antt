@@ -5,7 +5,7 @@ use mathlib.Core.List.{List, [], _∷_}
 use lib.ListN.{replicate}
 use Rattle.std.specs.declared.option.Option.{Option}
 use Rattle.std.specs.declared.option.Option.the-variants.{None, Some}
-use Rattle.store.specs.Disk.{Blob, Blobs, Disk, noKeys, doneAll, Op, Open, Append}
+use Rattle.store.specs.Disk.{Blob, Blobs, Disk, noKeys, doneAll, Op, Open, Append, Sync}
 use Rattle.store.specs.declared.keys.Keys.{Keys}
 use Rattle.rules.specs.Rules.{Config, Fault, ItemPruned, Corruption, Plan, answer, refuse, ask, call, made}
 use Rattle.rules.specs.Open.{Opened, open-rule}
@@ -51,6 +51,12 @@ last (call o p) = last p
 abbrev append-five : Plan (Running × ℕ)
 append-five = append-rule four six (replicate 5 (replicate 2 0))
 
+abbrev empty : Running
+empty = record { start = 0; end = 0; owed = None }
+
+abbrev append-ten : Plan (Running × ℕ)
+append-ten = append-rule four empty (replicate 10 (replicate 2 0))
+
 abbrev keys-nine : Keys
 keys-nine = record { hint = Some 9; target = None; watermark = Some 9 }
 
@@ -60,6 +66,9 @@ nine = disk None (Some 9) None two
 pub record Paper : Type 0 where
   pub batches : made append-five ≡ Append 1 (replicate 4 0) ∷ (Open 2 ∷ (Append 2 (replicate 6 0) ∷ []))
   pub answer-ten : last append-five ≡ Some 10
+  -- blob 0 is synced once blob 1 is full, and before blob 2 is made
+  pub seals :
+      made append-ten ≡ Append 0 (replicate 8 0) ∷ (Open 1 ∷ (Append 1 (replicate 8 0) ∷ (Sync 0 ∷ (Open 2 ∷ (Append 2 (replicate 4 0) ∷ [])))))
   pub new-store : opens None (disk None None None []) ≡ span 0 0
   pub seven : opens None (disk None None (Some 5) two) ≡ span 0 7
   pub to-six : opens (Some 6) (disk None None (Some 5) two) ≡ span 0 6

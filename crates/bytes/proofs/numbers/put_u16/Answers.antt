@@ -4,4 +4,4 @@ use Rattle.bytes.proofs.BigEndian.{digits-2}
 use Rattle.bytes.proofs.numbers.put_u16.Needs as need
 
 pub returns : need.returns
-returns c = c .put-bytes .ensures ∙ ap (written (c .args .out .now) (c .args .at)) (c .to-be-bytes .ensures ∙ digits-2 (c .args .n))
+returns c = c .put-bytes .ensures ∙ ap (written (c .args .out .now) (c .args .at)) (c .to-be-bytes-two .ensures ∙ digits-2 (c .args .n))
