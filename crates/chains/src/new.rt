@@ -74,6 +74,7 @@ impl Chains {
         ensures memory { λ r. ⌜ Relinked (vec-items memory) (list (vec-items (r .memory)) (r .free)) (vec-items (r .memory)) ⌝ }
         ensures long { λ r. ⌜ vec-len (r .memory) ≡ vec-len memory ⌝ }
         ensures sectors { λ r. ⌜ r .sectors ≡ usable (vec-len memory / 64) ⌝ }
+        ensures unfit { λ r. ⌜ (usable (vec-len memory / 64) ≡ 0 → (b : ℕ) → seen r .room b ≡ 0) ⌝ }
         ensures calls { λ r. ⌜ r .catalog .calls ≡ calls ⌝ }
     {
         let sectors = in_use(memory.len() / 64);

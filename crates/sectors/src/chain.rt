@@ -1,5 +1,5 @@
 // A chain of sectors: its first and its last, 0 where there is none, and how many there are.
-#[derive(Clone, Copy, PartialEq, Eq, Debug)]
+#[derive(Clone, Copy)]
 pub struct Chain {
     pub first: usize,
     pub last: usize,
