@@ -1,0 +1,4 @@
+pub mod Taken
+pub mod Listing
+pub mod Readings
+pub mod Staging

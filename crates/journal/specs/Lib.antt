@@ -1,0 +1,6 @@
+pub mod Configs
+pub mod Faults
+pub mod Steps
+pub mod Logs
+pub mod Reading
+pub mod Clears

@@ -1,0 +1,10 @@
+// The part of the journal that reopens a log.
+mod checkpoint;
+mod clear;
+pub mod config;
+pub mod fault;
+pub mod log;
+mod positions;
+pub mod reads;
+pub mod staged;
+mod steps;
