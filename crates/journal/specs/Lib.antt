@@ -4,3 +4,4 @@ pub mod Steps
 pub mod Logs
 pub mod Reading
 pub mod Clears
+pub mod Recovery

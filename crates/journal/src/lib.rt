@@ -1,4 +1,5 @@
 // The part of the journal that reopens a log.
+mod bounds;
 mod checkpoint;
 mod clear;
 pub mod config;
@@ -8,3 +9,5 @@ mod positions;
 pub mod reads;
 pub mod staged;
 mod steps;
+mod suspects;
+mod walk;

@@ -1,9 +1,9 @@
 // The calls of a store, whose refusals name the step.
 ghost use lib.ListN.{length};
-ghost use Rattle.store.specs.Ask.{aboveOf, keyOf, readOf};
-ghost use Rattle.store.specs.Disk.{Open, Sync, Remove, Put, DropKey, SyncKeys};
+ghost use Rattle.store.specs.Ask.{aboveOf, belowOf, lengthOf, scanOf, keyOf, readOf};
+ghost use Rattle.store.specs.Disk.{Open, Truncate, Sync, Remove, Put, DropKey, SyncKeys};
 ghost use Rattle.journal.specs.Steps.{Asked, Took, Read};
-ghost use Rattle.journal.specs.declared.fault.Step.the-variants.{Listed, Looked};
+ghost use Rattle.journal.specs.declared.fault.Step.the-variants.{Listed, Measured, Scanned, Looked};
 use crate::fault::Step;
 use crate::fault::StoreFault;
 use store::keys::Key;
@@ -114,6 +114,54 @@ pub fn read<S: Store>(store: &S, b: u64, at: u64, out: &mut [u8]) -> Result<(), 
         Err(cause) => Err(StoreFault {
             cause,
             step: Step::Copied(b),
+        }),
+    }
+}
+
+pub fn at_or_below<S: Store>(store: &S, b: u64) -> Result<Option<u64>, StoreFault>
+    ensures { λ r. ⌜ Asked Listed (belowOf (view (now (store .entry))) b) r ⌝ }
+{
+    match store.at_or_below(b) {
+        Ok(found) => Ok(found),
+        Err(cause) => Err(StoreFault {
+            cause,
+            step: Step::Listed,
+        }),
+    }
+}
+
+pub fn len<S: Store>(store: &S, b: u64) -> Result<u64, StoreFault>
+    ensures { λ r. ⌜ Asked (Measured b) (lengthOf (view (now (store .entry))) b) r ⌝ }
+{
+    match store.len(b) {
+        Ok(n) => Ok(n),
+        Err(cause) => Err(StoreFault {
+            cause,
+            step: Step::Measured(b),
+        }),
+    }
+}
+
+pub fn scan<S: Store>(store: &S, b: u64, limit: u64) -> Result<u64, StoreFault>
+    ensures { λ r. ⌜ Asked (Scanned b) (scanOf (view (now (store .entry))) b limit) r ⌝ }
+{
+    match store.scan(b, limit) {
+        Ok(n) => Ok(n),
+        Err(cause) => Err(StoreFault {
+            cause,
+            step: Step::Scanned(b),
+        }),
+    }
+}
+
+pub fn truncate<S: Store>(store: &mut S, b: u64, n: u64) -> Result<(), StoreFault>
+    ensures { λ r. ⌜ Took (Truncate b n) (view (now (store .entry))) r (view (now (store .exit))) ⌝ }
+{
+    match store.truncate(b, n) {
+        Ok(()) => Ok(()),
+        Err(cause) => Err(StoreFault {
+            cause,
+            step: Step::Truncate(b),
         }),
     }
 }
