@@ -5,3 +5,6 @@ pub mod Staging
 pub mod Starting
 pub mod Walking
 pub mod Examining
+pub mod Highest
+pub mod Suspecting
+pub mod Recovering

@@ -5,3 +5,4 @@ pub mod Logs
 pub mod Reading
 pub mod Clears
 pub mod Recovery
+pub mod Opens

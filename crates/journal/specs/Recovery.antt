@@ -3,17 +3,19 @@ use Prim.Native.Nat.{ℕ, _+_, _*_, _/_, _≤_, _<_, min}
 use mathlib.Core.Path.{_≡_}
 use mathlib.Core.Logic.{_⊎_}
 use mathlib.Core.Bool.{Bool, true, false, cond}
-use mathlib.Core.List.{List, [], _∷_}
+use mathlib.Core.List.{List, [], _∷_, reverse}
 use lib.ListN.{length}
 use lib.Dec.{eqb, ltb}
+use Rattle.std.specs.Options.{valueOr}
 use Rattle.std.specs.declared.option.Option.{Option}
 use Rattle.std.specs.declared.option.Option.the-variants.{None, Some}
 use Rattle.std.specs.declared.result.Result.{Result}
 use Rattle.std.specs.declared.result.Result.the-variants.{Ok, Err}
-use Rattle.store.specs.Disk.{Blob, Blobs, View, find, atOrAbove, change}
-use Rattle.rules.specs.Rules.{Config, MAX, Plan, answer, refuse, Outcome, answered, refused, Follows}
+use Rattle.store.specs.Disk.{Blob, Blobs, Disk, View, find, atOrAbove, change}
+use Rattle.rules.specs.Rules.{Config, MAX, Plan, answer, refuse, refuseIf, Outcome, answered, refused, Follows, ItemPruned}
+use Rattle.rules.specs.Rules.{OffsetOverflow as Over}
 use Rattle.rules.specs.Rules.{Fault as Ruled}
-use Rattle.rules.specs.Open.{Opened, startAt, needed, roundUp, examine, capacity, Walked, stands, overfull, overflows}
+use Rattle.rules.specs.Open.{Opened, startAt, needed, roundUp, examine, examineTwo, capacity, Walked, stands, overfull, overflows, walkAll, weigh, below, edgeAt, isBelow, orMax, anyOver}
 use Rattle.journal.specs.declared.log.Held.{Held}
 use Rattle.journal.specs.declared.fault.Corrupt.the-variants.{Overfull}
 use Rattle.journal.specs.declared.fault.Fault.{Fault}
@@ -91,3 +93,35 @@ pub record Stood (c : Config) (s : ℕ) (ceiling : Option ℕ) (floor b : ℕ) (
 abbrev pub Examined : {A : Type 0} → Config → ℕ → Option ℕ → ℕ → ℕ → Blob → View → Result A Fault → View → Type 0
 Examined c s ceiling floor b x v (Ok y) w = Stood c s ceiling floor b x v w
 Examined c s ceiling floor b x v (Err f) w = (k : ℕ × Blob → Plan Opened) → Ends (examine c s ceiling floor (b, x) k) v f w
+
+-- the last of rising numbers, or else d
+abbrev pub lastOr : Option ℕ → Blobs → Option ℕ
+lastOr d [] = d
+lastOr d (x ∷ xs) = lastOr (Some (x .0)) xs
+
+abbrev pub highest : Blobs → Option ℕ
+highest xs = lastOr None xs
+
+abbrev pub ExaminedTwo : {A : Type 0} → Config → ℕ → Option ℕ → ℕ → ℕ → View → Result A Fault → View → Type 0
+ExaminedTwo c s ceiling floor e v (Ok y) w =
+    (w .up ≡ true) × ((k : Blobs → Plan Opened) → Leads (examineTwo c s ceiling floor (reverse (below e (v .disk .blobs))) k) v (k (below e (w .disk .blobs))) w)
+ExaminedTwo c s ceiling floor e v (Err f) w = (k : Blobs → Plan Opened) → Ends (examineTwo c s ceiling floor (reverse (below e (v .disk .blobs))) k) v f w
+
+-- the ceiling is not below the start, and every blob's first position is a number
+abbrev pub admitted : Config → ℕ → Option ℕ → Blobs → Plan Opened → Plan Opened
+admitted c s ceiling xs p = refuseIf (isBelow ceiling s) (ItemPruned (orMax ceiling)) (refuseIf (anyOver c xs) Over p)
+
+abbrev pub Admits : {A : Type 0} → Config → ℕ → Option ℕ → Blobs → Result A Fault → Type 0
+Admits c s ceiling xs (Ok y) = (p : Plan Opened) → admitted c s ceiling xs p ≡ p
+Admits c s ceiling xs (Err f) = (p : Plan Opened) → Tells f (admitted c s ceiling xs p)
+
+-- the suspects, the walk and the watermark
+abbrev pub spanned : Config → ℕ → Option ℕ → Disk → Plan Opened
+spanned c s ceiling d =
+    examineTwo c s ceiling (min (valueOr (d .present .watermark) 0) (orMax ceiling)) (reverse (below (edgeAt c s ceiling) (d .blobs))) (λ bs.
+    weigh c s ceiling (edgeAt c s ceiling) (d .present .watermark) (walkAll c s bs))
+
+-- a part of opening that ends it
+abbrev pub Recovers : Plan Opened → View → Result Held Fault → View → Type 0
+Recovers p v (Ok h) w = Follows p v (answered (heldOf h)) w
+Recovers p v (Err f) w = Ends p v f w

@@ -42,6 +42,15 @@ pub struct Lost<S> {
     pub(crate) fault: Fault,
 }
 
+impl<S> Lost<S> {
+    pub fn into_parts(self) -> (S, Fault)
+        ensures { λ r. ⌜ (r .0 ≡ self .store) × (r .1 ≡ self .fault) ⌝ }
+    {
+        let Lost { store, fault } = self;
+        (store, fault)
+    }
+}
+
 pub impl<L, S> From<Lost<S>> for Stop<L, S> as StopFromLost {
     ghost converts = { λ e r. r ≡ Ended (e .store) (e .fault) };
 

@@ -6,12 +6,13 @@ ghost use lib.Dec.{eqb, leb};
 ghost use Rattle.std.specs.Options.{isSome};
 ghost use Rattle.std.specs.declared.option.Option.the-variants.{Some};
 ghost use Rattle.store.specs.Disk.{Blob, find};
-ghost use Rattle.rules.specs.Open.{passes, roundUp};
+ghost use Rattle.rules.specs.Open.{below, passes, roundUp};
 ghost use Rattle.rules.specs.Open.{needed as neededIn};
 ghost use Rattle.rules.specs.Open.{acknowledged as acknowledgedIn};
 ghost use Rattle.rules.specs.Open.{valid as validIn};
 ghost use Rattle.journal.specs.Configs.{ruled};
-ghost use Rattle.journal.specs.Recovery.{Examined, Gives, Owed, limitFor};
+ghost use Rattle.journal.specs.Recovery.{Examined, ExaminedTwo, Gives, Owed, highest, limitFor};
+ghost use Rattle.journal.specs.Logs.{edgeOf};
 use crate::bounds::or_max;
 use crate::config::Config;
 use crate::fault::Corrupt;
@@ -75,9 +76,7 @@ fn acknowledged(scope: Scope, floor: u64, b: u64) -> Option<u64>
 fn holds(scope: Scope, b: u64, scanned: u64, limit: u64) -> bool
     ensures { λ r. ⌜ r ≡ (isSome (scope .ceiling) && (eqb scanned limit && leb (neededIn (ruled (scope .config)) (scope .start) (scope .ceiling) b) (scanned / scope .config .size))) ⌝ }
 {
-    scope.ceiling.is_some()
-        && scanned == limit
-        && needed(scope, b) <= scanned / scope.config.size
+    scope.ceiling.is_some() && scanned == limit && needed(scope, b) <= scanned / scope.config.size
 }
 
 // Whether a blob passes, and how many of its bytes are whole records.
@@ -93,12 +92,7 @@ fn inspect<S: Store>(store: &S, scope: Scope, b: u64) -> Result<(bool, u64), Fau
 }
 
 // A suspect is passed over, refused or cut.
-fn examine_suspect<S: Store>(
-    store: &mut S,
-    scope: Scope,
-    floor: u64,
-    b: u64,
-) -> Result<(), Fault>
+fn examine_suspect<S: Store>(store: &mut S, scope: Scope, floor: u64, b: u64) -> Result<(), Fault>
     requires { ⌜ view (now store) .up ≡ true ⌝ }
     ensures { λ r. ⌜ ((x : Blob) → find (view (now (store .entry)) .disk .blobs) b ≡ Some x → Examined (ruled (scope .config)) (scope .start) (scope .ceiling) floor b x (view (now (store .entry))) r (view (now (store .exit)))) ⌝ }
 {
@@ -117,4 +111,41 @@ fn examine_suspect<S: Store>(
     }
     steps::truncate(store, b, valid)?;
     Ok(())
+}
+
+// The highest blob below an edge.
+pub fn highest_below<S: Store>(store: &S, edge: Option<u64>) -> Result<Option<u64>, Fault>
+    requires { ⌜ view (now store) .up ≡ true ⌝ }
+    ensures { λ r. ⌜ Gives (highest (below (edgeOf edge) (view (now (store .entry)) .disk .blobs))) r ⌝ }
+{
+    let top = match edge {
+        None => u64::MAX,
+        Some(edge) => {
+            if edge == 0 {
+                return Ok(None);
+            }
+            edge - 1
+        }
+    };
+    Ok(steps::at_or_below(store, top)?)
+}
+
+// The two highest blobs below the edge, the higher first.
+pub fn examine_two<S: Store>(
+    store: &mut S,
+    scope: Scope,
+    floor: u64,
+    edge: Option<u64>,
+) -> Result<(), Fault>
+    requires { ⌜ view (now store) .up ≡ true ⌝ }
+    ensures { λ r. ⌜ ExaminedTwo (ruled (scope .config)) (scope .start) (scope .ceiling) floor (edgeOf edge) (view (now (store .entry))) r (view (now (store .exit))) ⌝ }
+{
+    let Some(high) = highest_below(store, edge)? else {
+        return Ok(());
+    };
+    examine_suspect(store, scope, floor, high)?;
+    let Some(next) = highest_below(store, Some(high))? else {
+        return Ok(());
+    };
+    examine_suspect(store, scope, floor, next)
 }

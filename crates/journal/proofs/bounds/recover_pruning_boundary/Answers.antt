@@ -29,6 +29,6 @@ returns-then-blob-lowest-2 c k =
     let rule = ruled (c .args .config) in
     let a : aligned rule (c .in-Some .hint) ≡ false = ne-eqb _ 0 (c .if-hint-config-eq0 .left) in
     let f : First rule (Some (c .in-Some-lowest .lowest)) (Ok (c .in-Continue-first .first)) =
-        subst (λ (o : Option ℕ). First rule o (Ok (c .in-Continue-first .first))) (c .in-Some-lowest .is) (c .in-Continue-first .ensures tt) in
+    subst (λ (o : Option ℕ). First rule o (Ok (c .in-Continue-first .first))) (c .in-Some-lowest .is) (c .in-Continue-first .ensures tt) in
     let l : c .in-Some-lowest .lowest < blobOf rule (c .in-Some .hint) = omega arith in
     (Corruption 1, refl, start-newer rule (c .args .hint) (c .args .lowest) (c .in-Some .hint) (c .in-Some-lowest .lowest) (c .in-Continue-first .first) k (c .in-Some .is) (c .in-Some-lowest .is) a f l)
