@@ -8,3 +8,4 @@ pub mod Examining
 pub mod Highest
 pub mod Suspecting
 pub mod Recovering
+pub mod Appending

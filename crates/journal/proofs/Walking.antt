@@ -178,6 +178,9 @@ module _ (c : Config) (s size b : ℕ) where
     walk-wrong f (inl w) = let t = eq-eqb n b here in let p = w .0 in inl (ap (walk c s size b) is ∙ simp (t, p), w .1)
     walk-wrong f (inr w) = let t = eq-eqb n b here in let p = w .0 in let q = w .1 in inr (ap (walk c s size b) is ∙ simp (t, p, q), w .2)
 
+pub up-all : (v : View) → Lawful v → Up 0 (v .disk .blobs)
+up-all v laws = up-rising 0 (v .disk .blobs) (laws .rising) (λ h. omega arith)
+
 pub up-store : (v : View) (e : ℕ) → Lawful v → Up 0 (below e (v .disk .blobs))
 up-store v e laws = up-below 0 e (v .disk .blobs) (up-rising 0 (v .disk .blobs) (laws .rising) (λ h. omega arith))
 

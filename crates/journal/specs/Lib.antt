@@ -6,3 +6,4 @@ pub mod Reading
 pub mod Clears
 pub mod Recovery
 pub mod Opens
+pub mod Trimming

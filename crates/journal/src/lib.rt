@@ -1,4 +1,5 @@
 // The part of the journal that reopens a log.
+mod append;
 mod bounds;
 mod checkpoint;
 mod clear;
@@ -12,4 +13,5 @@ mod recover;
 pub mod staged;
 mod steps;
 mod suspects;
+pub mod trimmed;
 mod walk;

@@ -1,7 +1,7 @@
 // The calls of a store, whose refusals name the step.
 ghost use lib.ListN.{length};
 ghost use Rattle.store.specs.Ask.{aboveOf, belowOf, lengthOf, scanOf, keyOf, readOf};
-ghost use Rattle.store.specs.Disk.{Open, Truncate, Sync, Remove, Put, DropKey, SyncKeys};
+ghost use Rattle.store.specs.Disk.{Append, Open, Truncate, Sync, Remove, Put, DropKey, SyncKeys};
 ghost use Rattle.journal.specs.Steps.{Asked, Took, Read};
 ghost use Rattle.journal.specs.declared.fault.Step.the-variants.{Listed, Measured, Scanned, Looked};
 use crate::fault::Step;
@@ -162,6 +162,18 @@ pub fn truncate<S: Store>(store: &mut S, b: u64, n: u64) -> Result<(), StoreFaul
         Err(cause) => Err(StoreFault {
             cause,
             step: Step::Truncate(b),
+        }),
+    }
+}
+
+pub fn append<S: Store>(store: &mut S, b: u64, bytes: &[u8]) -> Result<(), StoreFault>
+    ensures { λ r. ⌜ Took (Append b (now (bytes .entry))) (view (now (store .entry))) r (view (now (store .exit))) ⌝ }
+{
+    match store.append(b, bytes) {
+        Ok(()) => Ok(()),
+        Err(cause) => Err(StoreFault {
+            cause,
+            step: Step::Append(b),
         }),
     }
 }
