@@ -9,3 +9,4 @@ pub mod Highest
 pub mod Suspecting
 pub mod Recovering
 pub mod Appending
+pub mod Pruning

@@ -7,7 +7,7 @@ use Rattle.std.specs.declared.result.Result.{Result}
 use Rattle.std.specs.declared.result.Result.the-variants.{Ok, Err}
 use Rattle.store.specs.Disk.{View, Op, Append, Sync}
 use Rattle.rules.specs.Rules.{Config, blobOf, aligned, answered, Follows}
-use Rattle.rules.specs.Calls.{trimmed-append-rule, trimmed-sync-rule}
+use Rattle.rules.specs.Calls.{trimmed-append-rule, trimmed-prune-rule, trimmed-sync-rule}
 use Rattle.journal.specs.declared.fault.StoreFault.{StoreFault}
 use Rattle.journal.specs.declared.log.Lost.{Lost}
 use Rattle.journal.specs.declared.log.Stop.{Stop}
@@ -34,3 +34,9 @@ adding c end bytes = Append (blobOf c end) bytes ∷ cond (aligned c (end + 1)) 
 abbrev pub Appended : {S K : Type 0} → (S → View) → Trimmed S K → List ℕ → Result (Trimmed S K) (Stop (Trimmed S K) S) → Type 0
 Appended view l bytes r =
     Calls view (λ x. x .store) (λ x. heldOf (x .held)) (λ x. x .config ≡ l .config) (trimmed-append-rule (ruled (l .config)) (view (l .store) .disk) (heldOf (l .held)) bytes) (view (l .store)) l r
+
+abbrev pub Pruned : {S K : Type 0} → (S → View) → Trimmed S K → ℕ → Result (Trimmed S K × Bool) (Lost S) → Type 0
+Pruned view l p (Ok x) =
+    Follows (trimmed-prune-rule (ruled (l .config)) (view (l .store) .disk) (heldOf (l .held)) p) (view (l .store)) (answered (heldOf (x .0 .held), x .1)) (view (x .0 .store))
+    × (x .0 .config ≡ l .config)
+Pruned view l p (Err e) = Stops (trimmed-prune-rule (ruled (l .config)) (view (l .store) .disk) (heldOf (l .held)) p) (view (l .store)) (e .fault) (view (e .store))

@@ -9,6 +9,7 @@ pub mod log;
 pub mod opening;
 mod positions;
 pub mod reads;
+mod prune;
 mod recover;
 pub mod staged;
 mod steps;

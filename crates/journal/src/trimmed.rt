@@ -5,7 +5,7 @@ ghost use Rattle.store.specs.Disk.{Sync, numbers};
 ghost use Rattle.rules.specs.Rules.{persist as persisting};
 ghost use Rattle.journal.specs.Configs.{ruled};
 ghost use Rattle.journal.specs.Steps.{Asks};
-ghost use Rattle.journal.specs.Trimming.{Appended, Synced};
+ghost use Rattle.journal.specs.Trimming.{Appended, Pruned, Synced};
 use crate::append::write_record;
 use crate::checkpoint::persist;
 use crate::config::Config;
@@ -15,12 +15,13 @@ use crate::log::Held;
 use crate::log::Lost;
 use crate::log::Stop;
 use crate::log::Trimmed;
+use crate::prune::prune_to;
 use crate::steps;
 use record::record::Record;
 use store::store::Store;
 
 // Syncs the blobs, lowest first.
-fn sync_all<S: Store>(store: &mut S) -> Result<(), StoreFault>
+pub(crate) fn sync_all<S: Store>(store: &mut S) -> Result<(), StoreFault>
     ensures { λ r. ⌜ Asks (map Sync (numbers (view (now (store .entry)) .disk .blobs))) (view (now (store .entry))) r (view (now (store .exit))) ⌝ }
 {
     let mut at = 0;
@@ -108,6 +109,48 @@ impl<S: Store, K: Record> Trimmed<S, K> {
                 kind,
             }),
             Err(e) => Err(Stop::Ended(store, Fault::Store(e))),
+        }
+    }
+}
+
+impl<S: Store, K> Trimmed<S, K> {
+    // Blobs below the one of a position go; answers whether any position went.
+    pub fn prune(self, position: u64) -> Result<(Trimmed<S, K>, bool), Lost<S>>
+        ensures { λ r. ⌜ Pruned view self position r ⌝ }
+    {
+        let near = position.min(self.held.end);
+        let b = near / self.config.records;
+        let first = b * self.config.records;
+        if first <= self.held.start {
+            return Ok((self, false));
+        }
+        let Trimmed {
+            mut store,
+            config,
+            held,
+            kind,
+        } = self;
+        match prune_to(&mut store, b) {
+            Ok(()) => {
+                let held = Held {
+                    start: first,
+                    end: held.end,
+                    mark: held.mark,
+                    bounded: held.bounded,
+                    edge: None,
+                };
+                let log = Trimmed {
+                    store,
+                    config,
+                    held,
+                    kind,
+                };
+                Ok((log, true))
+            }
+            Err(e) => Err(Lost {
+                store,
+                fault: Fault::Store(e),
+            }),
         }
     }
 }
