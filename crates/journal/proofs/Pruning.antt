@@ -46,12 +46,12 @@ upTo-insert b [] = let t = le-ltb b b (omega arith) in simp t
 upTo-insert b (x ∷ xs) = elim (cases-bool (ltb b (x .0))) [
   | inl p ↦ let t = le-ltb b b (omega arith) in simp (p, t)
   | inr p ↦ elim (cases-bool (eqb b (x .0))) [
-        | inl q ↦ simp (p, q)
-        | inr q ↦ elim (cases-bool (ltb (x .0) b)) [
-              | inl r ↦ simp (p, q, r) (ap (λ (ms : List ℕ). x .0 ∷ ms) (upTo-insert b xs))
-              | inr r ↦ simp (p, q, r) (upTo-insert b xs)
-            ]
-      ]
+    | inl q ↦ simp (p, q)
+    | inr q ↦ elim (cases-bool (ltb (x .0) b)) [
+      | inl r ↦ simp (p, q, r) (ap (λ (ms : List ℕ). x .0 ∷ ms) (upTo-insert b xs))
+      | inr r ↦ simp (p, q, r) (upTo-insert b xs)
+    ]
+  ]
 ]
 
 -- syncing leaves the numbers
