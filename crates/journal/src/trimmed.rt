@@ -6,6 +6,9 @@ ghost use Rattle.rules.specs.Rules.{persist as persisting};
 ghost use Rattle.journal.specs.Configs.{ruled};
 ghost use Rattle.journal.specs.Steps.{Asks};
 ghost use Rattle.journal.specs.Trimming.{Appended, Pruned, Synced};
+ghost use Rattle.std.specs.declared.result.Result.the-variants.{Err};
+ghost use Rattle.journal.specs.declared.fault.Fault.the-variants.{BadConfig};
+ghost use Rattle.journal.specs.declared.log.Stop.the-variants.{Refused};
 use crate::append::write_record;
 use crate::checkpoint::persist;
 use crate::config::Config;
@@ -82,10 +85,14 @@ impl<S: Store, K> Trimmed<S, K> {
 }
 
 impl<S: Store, K: Record> Trimmed<S, K> {
-    // One record after the last, if the log was opened for records of this size.
+    // One record after the last. A log that was configured for records of another size refuses it.
     pub fn append(self, item: K) -> Result<Trimmed<S, K>, Stop<Trimmed<S, K>, S>>
-        ensures { λ r. ⌜ (K·Record .size ≡ self .config .size → Appended view self (encode item) r) ⌝ }
+        ensures sized { λ r. ⌜ (K·Record .size ≡ self .config .size → Appended view self (encode item) r) ⌝ }
+        ensures other { λ r. ⌜ ((K·Record .size ≡ self .config .size → ⊥) → r ≡ Err (Refused self BadConfig)) ⌝ }
     {
+        if K::size() as u64 != self.config.size {
+            return Err(Stop::Refused(self, Fault::BadConfig));
+        }
         if self.held.end == u64::MAX {
             return Err(Stop::Refused(self, Fault::SizeOverflow));
         }
