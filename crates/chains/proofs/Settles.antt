@@ -7,8 +7,8 @@ use Rattle.store.specs.declared.restart.Past.TheVariants.{Cut, Fill}
 use Rattle.store.specs.declared.restart.Restart.{Restart}
 use Rattle.store.specs.Disk.{Blob, blank}
 use Rattle.store.specs.Left.{sound_left, left_of, left_entry}
-use Rattle.bytes.specs.Written.{written}
-use Rattle.bytes.proofs.Writes.{part_grown}
+use Rattle.octets.specs.Written.{written}
+use Rattle.octets.proofs.Writes.{part_grown}
 use Rattle.catalog.specs.declared.row.Row.{Row}
 use Rattle.catalog.specs.declared.table.Table.{Table}
 use Rattle.catalog.specs.Rows.{cut_left, filled_left}

@@ -1,4 +1,6 @@
 // A store of 64-byte sectors in chains.
+#![tactic(auto)]
+
 pub mod again;
 pub mod ask;
 pub mod chains;

@@ -1,4 +1,6 @@
 // The part of the journal that reopens a log.
+#![tactic(auto)]
+
 mod append;
 mod bounds;
 mod checkpoint;

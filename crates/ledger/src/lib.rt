@@ -1,4 +1,6 @@
 // The ledger and its promises, and the law: every history that the rules allow agrees with it.
+#![tactic(auto)]
+
 ghost use Rattle.ledger.specs.Runs.{LawFor, InLineFor};
 ghost use Rattle.ledger.specs.Useless.{Useless, Taken};
 

@@ -1,6 +1,6 @@
 -- A distance record has 7 bytes, the highest of each number first: station 4, reading 2, grade 1. A grade above 3 is no record.
 use Rattle.std.specs.Prelude.{ℕ, ◌^◌, ◌<◌, cond, List, [], ◌∷◌, ◌++◌, length, take, drop, Some, None, Option, ◌==◌, slice_index}
-use Rattle.bytes.specs.BigEndian.{digits, number_of}
+use Rattle.octets.specs.BigEndian.{digits, number_of}
 use Rattle.record.specs.declared.distance.Grade.{Grade}
 use Rattle.record.specs.declared.distance.Distance.{Distance}
 use Rattle.record.specs.Grades.{grade_number, grade_of}

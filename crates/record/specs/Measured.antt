@@ -3,8 +3,8 @@ use Rattle.std.specs.Prelude.{◌≡◌, ℕ, ◌+◌, ◌*◌, ◌<◌, ◌≤�
 use Rattle.std.proofs.Common.{arith, sym, ap, ◌∙◌, length-drop}
 use Rattle.std.proofs.lemmas.List.{take-append-drop, drop-drop, drop_more, drop_all}
 use Rattle.std.proofs.lemmas.Bool.{eqb-true}
-use Rattle.bytes.specs.BigEndian.{digits, number_of, Bytes}
-use Rattle.bytes.proofs.BigEndian.{digits_part}
+use Rattle.octets.specs.BigEndian.{digits, number_of, Bytes}
+use Rattle.octets.proofs.BigEndian.{digits_part}
 use Rattle.record.specs.declared.distance.Grade.{Grade}
 use Rattle.record.specs.declared.distance.Grade.TheVariants.{Zero, One, Two, Three}
 use Rattle.record.specs.declared.distance.Distance.{Distance}

@@ -7,7 +7,7 @@ ghost use Rattle.std.proofs.Common.{rules};
 
 use crate::distance::{Distance, Grade};
 use crate::record::Record;
-use bytes::numbers::{get_u16, get_u32, put_u16, put_u32};
+use octets::numbers::{get_u16, get_u32, put_u16, put_u32};
 use std::fmt;
 
 impl Record for Distance {

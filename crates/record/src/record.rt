@@ -1,6 +1,6 @@
 // A record kind: how many bytes a record has, how it is written, and which bytes are read as one.
 ghost use Rattle.std.specs.Prelude.{◌≡◌, ℕ, List, length, Some, Option};
-ghost use Rattle.bytes.specs.BigEndian.{Bytes};
+ghost use Rattle.octets.specs.BigEndian.{Bytes};
 ghost use Rattle.record.specs.Written.{WrittenTo};
 
 pub trait Record: Copy {

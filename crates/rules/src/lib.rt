@@ -1,4 +1,6 @@
 // The rules of the log's calls, as definitions: specs/.
+#![tactic(auto)]
+
 ghost use Rattle.rules.specs.Paper.{Paper};
 
 // The logs on paper, as one statement.

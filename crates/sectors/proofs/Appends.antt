@@ -4,8 +4,8 @@ use Rattle.std.specs.List.{flat_map}
 use Rattle.std.proofs.lemmas.List.{append_assoc, take-take, get_or-take}
 use Rattle.store.specs.Occurs.{occurs}
 use Rattle.store.proofs.Occurs.{occurs_append}
-use Rattle.bytes.specs.Written.{written}
-use Rattle.bytes.proofs.Writes.{part_grown}
+use Rattle.octets.specs.Written.{written}
+use Rattle.octets.proofs.Writes.{part_grown}
 use Rattle.sectors.specs.declared.chain.Chain.{Chain}
 use Rattle.sectors.specs.Sectors.{next_of, payload, sectors, after, last_of, Apart}
 use Rattle.sectors.specs.Chains.{list, joint, Stands, Both, Filled, Moved}

@@ -2,10 +2,10 @@
 use Rattle.std.proofs.Common.{◌≡◌, ℕ, ◌+◌, ◌-◌, ◌*◌, ◌^◌, ◌<◌, ◌≤◌, ◌⊎◌, List, [], ◌∷◌, length, get_or, take, drop, sym, ap, ◌∙◌, inl, inr, arith}
 use Rattle.std.proofs.lemmas.List.{same_lists, get_or-take, get_or-drop, drop-take, take-take, drop-drop}
 use Rattle.std.proofs.lemmas.Bool.{cases_order, cases_lt}
-use Rattle.bytes.specs.Written.{written}
-use Rattle.bytes.proofs.Writes.{byte_outside, byte_inside, part_outside, part_grown, length_part, length_written}
-use Rattle.bytes.specs.BigEndian.{digits, number_of}
-use Rattle.bytes.proofs.BigEndian.{length_digits, number_digits}
+use Rattle.octets.specs.Written.{written}
+use Rattle.octets.proofs.Writes.{byte_outside, byte_inside, part_outside, part_grown, length_part, length_written}
+use Rattle.octets.specs.BigEndian.{digits, number_of}
+use Rattle.octets.proofs.BigEndian.{length_digits, number_digits}
 use Rattle.sectors.specs.Sectors.{next_of, payload, Linked, Stored}
 
 next_outside : (mem : List ℕ) (at : ℕ) (bs : List ℕ) → at + length bs ≤ length mem → (s : ℕ)

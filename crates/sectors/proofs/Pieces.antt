@@ -3,7 +3,7 @@ use Rattle.std.proofs.Common.{◌≡◌, ℕ, zero, suc, ◌+◌, ◌-◌, ◌*�
 use Rattle.std.specs.List.{flat_map}
 use Rattle.std.proofs.lemmas.List.{append_assoc, take-append-drop, take-take, take_at, take-append-le, drop-take, drop-drop, drop_at, drop-append-le, length-take-le}
 use Rattle.store.specs.Occurs.{occurs}
-use Rattle.bytes.specs.Written.{written}
+use Rattle.octets.specs.Written.{written}
 use Rattle.store.proofs.Occurs.{occurs_self, occurs_at}
 use Rattle.sectors.specs.declared.chain.Chain.{Chain}
 use Rattle.sectors.specs.Sectors.{next_of, payload, sectors, after, once, Apart, Stored}

@@ -2,7 +2,7 @@
 use Rattle.std.specs.Prelude.{◌≡◌, ℕ, ◌+◌, ◌<◌, List, ◌++◌}
 use Rattle.std.specs.List.{flat_map}
 use Rattle.store.specs.Occurs.{occurs}
-use Rattle.bytes.specs.Written.{written}
+use Rattle.octets.specs.Written.{written}
 use Rattle.sectors.specs.declared.chain.Chain.{Chain}
 use Rattle.sectors.specs.Sectors.{next_of, payload, sectors, after, last_of, Apart}
 

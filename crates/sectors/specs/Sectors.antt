@@ -2,8 +2,8 @@
 -- A chain goes by the next numbers alone, as a function from sectors to sectors, and not by the memory:
 -- a write to the memory is then a change of that function at one sector, or none.
 use Rattle.std.specs.Prelude.{◌≡◌, ℕ, zero, suc, ◌+◌, ◌*◌, ◌/◌, ◌≤◌, min, cond, List, [], ◌∷◌, length, take, drop, ◌≢◌, nat_lt}
-use Rattle.bytes.specs.BigEndian.{number_of}
-use Rattle.bytes.specs.Written.{written}
+use Rattle.octets.specs.BigEndian.{number_of}
+use Rattle.octets.specs.Written.{written}
 use Rattle.store.specs.Occurs.{occurs}
 
 unfoldable pub next_of : List ℕ → ℕ → ℕ

@@ -1,4 +1,6 @@
 // Sectors of 64 bytes in chains: the memory of the chain store, without its blobs.
+#![tactic(auto)]
+
 pub mod append;
 pub mod chain;
 pub mod grow;

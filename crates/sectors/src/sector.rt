@@ -2,8 +2,8 @@
 ghost use Rattle.std.specs.Prelude.{◌≡◌, ◌+◌, ◌*◌, ◌^◌, ◌<◌, ◌≤◌, length, take, drop};
 ghost use Rattle.sectors.specs.Sectors.{next_of, payload, Linked, Stored};
 
-use bytes::copies::put_bytes;
-use bytes::numbers::put_u32;
+use octets::copies::put_bytes;
+use octets::numbers::put_u32;
 
 // The next number of a sector, and its payload.
 pub fn parts(memory: &[u8], s: usize) -> (usize, &[u8])

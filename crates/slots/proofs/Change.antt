@@ -3,9 +3,9 @@ use Rattle.std.proofs.Common.{◌≡◌, ℕ, ◌+◌, ◌-◌, ◌*◌, ◌<◌
 use Rattle.std.proofs.lemmas.List.{length-take-le, take-take}
 use Rattle.std.proofs.lemmas.Bool.{lt-leb}
 use Rattle.store.specs.Disk.{Blob, Blobs, Disk, find, change, cut_to, grown}
-use Rattle.bytes.specs.Written.{written}
+use Rattle.octets.specs.Written.{written}
 use Rattle.store.proofs.Places.{find_changed}
-use Rattle.bytes.proofs.Writes.{part_outside, part_grown}
+use Rattle.octets.proofs.Writes.{part_outside, part_grown}
 use Rattle.catalog.specs.declared.row.Row.{Row}
 use Rattle.catalog.specs.declared.table.Table.{Table}
 use Rattle.catalog.specs.Rows.{Each, places_of, grown_row, cut_row}

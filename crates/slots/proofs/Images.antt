@@ -8,8 +8,8 @@ use Rattle.catalog.specs.declared.row.Row.{Row}
 use Rattle.catalog.specs.Rows.{none, sized}
 use Rattle.catalog.specs.Blobs.{entry_by, live}
 use Rattle.catalog.specs.Seen.{blob_at}
-use Rattle.bytes.specs.Written.{written}
-use Rattle.bytes.proofs.Writes.{part_grown}
+use Rattle.octets.specs.Written.{written}
+use Rattle.octets.proofs.Writes.{part_grown}
 use Rattle.slots.specs.declared.parts.Slots.{Slots}
 use Rattle.slots.specs.Found.{row_at}
 use Rattle.slots.specs.Seen.{part_of, blob_in, blobs, seen, room_by}

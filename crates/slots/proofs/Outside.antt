@@ -3,8 +3,8 @@ use Rattle.std.proofs.Common.{◌≡◌, ℕ, ◌+◌, ◌*◌, ◌<◌, ◌≤�
 use Rattle.std.proofs.lemmas.List.{get_or-map, get_or-set_same}
 use Rattle.catalog.specs.declared.row.Row.{Row}
 use Rattle.catalog.specs.Rows.{none, places_of}
-use Rattle.bytes.specs.Written.{written}
-use Rattle.bytes.proofs.Writes.{byte_outside}
+use Rattle.octets.specs.Written.{written}
+use Rattle.octets.proofs.Writes.{byte_outside}
 use Rattle.slots.specs.declared.parts.Slots.{Slots}
 use Rattle.slots.specs.Found.{row_at}
 use Rattle.slots.specs.Settled.{SameBut}

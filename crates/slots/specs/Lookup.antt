@@ -5,7 +5,7 @@ use Rattle.std.proofs.lemmas.List.{get_or-map, length-map}
 use Rattle.std.proofs.lemmas.Bool.{cases_order, le-ltb}
 use Rattle.store.specs.Disk.{find}
 use Rattle.store.specs.Ask.{read_of}
-use Rattle.bytes.proofs.Writes.{length_part}
+use Rattle.octets.proofs.Writes.{length_part}
 use Rattle.catalog.specs.declared.row.Row.{Row}
 use Rattle.catalog.specs.Rows.{none, places_of, Ordered}
 use Rattle.catalog.specs.Found.{Here}

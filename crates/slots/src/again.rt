@@ -8,8 +8,8 @@ ghost use Rattle.slots.specs.Settled.{SameBut};
 ghost use Rattle.slots.specs.Untouched.{UntouchedBut};
 
 use crate::parts::Slots;
-use bytes::copies::fill_at;
 use catalog::row::Row;
+use octets::copies::fill_at;
 use store::restart::{Past, Restart};
 
 impl Slots {

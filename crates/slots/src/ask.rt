@@ -5,7 +5,7 @@ ghost use Rattle.slots.specs.Found.{FoundAt};
 ghost use Rattle.slots.specs.Seen.{seen};
 
 use crate::parts::Slots;
-use bytes::copies::read_at;
+use octets::copies::read_at;
 use store::cause::Cause;
 
 impl Slots {

@@ -1,4 +1,6 @@
 // A store of 64 equal parts of one memory.
+#![tactic(auto)]
+
 pub mod again;
 pub mod ask;
 pub mod new;

@@ -5,8 +5,8 @@ ghost use Rattle.slots.specs.Seen.{seen};
 ghost use Rattle.slots.specs.Untouched.{Untouched};
 
 use crate::parts::Slots;
-use bytes::copies::write_at;
 use catalog::row::Row;
+use octets::copies::write_at;
 use store::cause::Cause;
 use store::keys::Key;
 

@@ -8,7 +8,7 @@ ghost use Rattle.slots.specs.Seen.{seen};
 ghost use Rattle.slots.specs.Untouched.{Untouched};
 
 use crate::parts::Slots;
-use bytes::copies::write_at;
+use octets::copies::write_at;
 use store::cause::Cause;
 
 impl Slots {

@@ -1,4 +1,6 @@
 // The stores, run on examples.
+#![tactic(auto)]
+
 #[cfg(test)]
 mod chained;
 #[cfg(test)]

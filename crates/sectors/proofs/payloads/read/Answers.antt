@@ -1,7 +1,7 @@
 use Rattle.std.proofs.Common.{◌≡◌, ◌+◌, ◌-◌, ◌/◌, ◌%◌, min, ◌++◌, length, take, drop, sym, refl, ap, ◌∙◌, arith}
 use Rattle.std.proofs.lemmas.List.{take_all}
 use Rattle.std.proofs.lemmas.Slice.{take-put_mid}
-use Rattle.bytes.proofs.Writes.{length_part}
+use Rattle.octets.proofs.Writes.{length_part}
 use Rattle.sectors.specs.Sectors.{next_of, payload, sectors}
 use Rattle.sectors.specs.Chains.{list, joint}
 use Rattle.sectors.proofs.Paths.{apart_part, fewer}

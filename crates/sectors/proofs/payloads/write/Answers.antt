@@ -1,6 +1,6 @@
 use Rattle.std.proofs.Common.{◌≡◌, ℕ, ◌+◌, ◌-◌, ◌/◌, List, ◌++◌, length, take, drop, sym, ap, ◌∙◌, subst, arith}
 use Rattle.std.proofs.lemmas.List.{take_all, length-take-le}
-use Rattle.bytes.proofs.Writes.{length_part}
+use Rattle.octets.proofs.Writes.{length_part}
 use Rattle.sectors.specs.Sectors.{next_of, sectors}
 use Rattle.sectors.specs.Chains.{list, Filled}
 use Rattle.sectors.proofs.Paths.{apart_part, fewer}

@@ -1,8 +1,8 @@
 use Rattle.std.proofs.Common.{◌≡◌, ℕ, ◌+◌, List, [], ◌∷◌, ◌++◌, length, take, set, sym, refl, ap, ◌∙◌, arith, rules}
 use Rattle.std.proofs.lemmas.List.{length-set, take_all, take_more_set}
-use Rattle.bytes.specs.BigEndian.{digits}
-use Rattle.bytes.specs.Written.{written}
-use Rattle.bytes.proofs.Writes.{length_written, take_written}
+use Rattle.octets.specs.BigEndian.{digits}
+use Rattle.octets.specs.Written.{written}
+use Rattle.octets.proofs.Writes.{length_written, take_written}
 use Rattle.record.specs.Grades.{grade_number}
 use Rattle.record.proofs.distances.DistanceRecord.write.Goals as goal
 

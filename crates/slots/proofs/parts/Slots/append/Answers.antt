@@ -1,6 +1,6 @@
 use Rattle.std.proofs.Common.{◌+◌, ◌*◌, ◌/◌, length, set, vec_items, sym, refl, ap, ◌∙◌, arith, rules}
 use Rattle.store.specs.Disk.{Append, grown}
-use Rattle.bytes.specs.Written.{written}
+use Rattle.octets.specs.Written.{written}
 use Rattle.catalog.specs.Rows.{grown_row}
 use Rattle.catalog.specs.Blobs.{blobs_by}
 use Rattle.catalog.specs.Seen.{blob_at}

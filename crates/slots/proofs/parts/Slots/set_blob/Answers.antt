@@ -5,7 +5,7 @@ use Rattle.store.proofs.Places.{insert_finds}
 use Rattle.catalog.specs.Rows.{sized}
 use Rattle.catalog.specs.Blobs.{blobs_by}
 use Rattle.catalog.specs.Seen.{blob_at}
-use Rattle.bytes.specs.Written.{written}
+use Rattle.octets.specs.Written.{written}
 use Rattle.catalog.proofs.Change.{changed}
 use Rattle.catalog.proofs.Stored.{as_disk}
 use Rattle.slots.specs.declared.parts.Slots.{Slots}

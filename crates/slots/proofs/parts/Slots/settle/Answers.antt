@@ -1,6 +1,6 @@
 use Rattle.std.proofs.Common.{◌≡◌, ◌+◌, ◌-◌, ◌*◌, ◌/◌, min, set, replicate, vec_items, sym, refl, ap, ◌∙◌, arith}
 use lib.ListN.{length-replicate}
-use Rattle.bytes.specs.Written.{written}
+use Rattle.octets.specs.Written.{written}
 use Rattle.catalog.specs.declared.row.Row.{Row}
 use Rattle.catalog.specs.Rows.{cut_left, filled_left}
 use Rattle.catalog.proofs.Change.{map_changed}

@@ -1,9 +1,9 @@
 use Rattle.std.proofs.Common.{◌≡◌, ℕ, ◌+◌, ◌*◌, ◌^◌, ◌<◌, ◌≤◌, [], ◌∷◌, ◌++◌, length, get_or, take, sym, refl, ap, ◌∙◌, pow-suc, add-one, arith}
 use native.Mathlib.Nat.{pow-le-pow_right}
 use Rattle.std.proofs.lemmas.List.{take_more, take_all}
-use Rattle.bytes.specs.BigEndian.{number_of}
-use Rattle.bytes.proofs.BigEndian.{number_more}
-use Rattle.bytes.proofs.numbers.number.Goals as goal
+use Rattle.octets.specs.BigEndian.{number_of}
+use Rattle.octets.proofs.BigEndian.{number_more}
+use Rattle.octets.proofs.numbers.number.Goals as goal
 
 -- seven bytes at most come before the last
 below_last : (n i : ℕ) → n < 256 ^ i → i < 8 → n < 72057594037927936

@@ -1,6 +1,6 @@
 // Bytes in and out of the memory.
 ghost use Rattle.std.specs.Prelude.{◌≡◌, ◌+◌, ◌≤◌, length, take, drop, replicate, vec_len};
-ghost use Rattle.bytes.specs.Written.{written};
+ghost use Rattle.octets.specs.Written.{written};
 
 pub fn put_bytes(memory: &mut [u8], at: usize, bytes: &[u8])
     requires { at + length bytes.now ≤ length memory.old }

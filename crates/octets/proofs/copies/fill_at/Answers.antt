@@ -1,7 +1,7 @@
 use Rattle.std.proofs.Common.{◌≡◌, replicate, refl, ap, ◌∙◌, arith}
 use Rattle.std.proofs.lemmas.List.{with_items_is}
-use Rattle.bytes.specs.Written.{written}
-use Rattle.bytes.proofs.copies.fill_at.Goals as goal
+use Rattle.octets.specs.Written.{written}
+use Rattle.octets.proofs.copies.fill_at.Goals as goal
 
 pub returns : goal.returns
 returns c =

@@ -2,8 +2,8 @@ use Rattle.std.proofs.Common.{◌≡◌, ◌+◌, ◌-◌, ◌++◌, length, tak
 use lib.ListN.{length-replicate}
 use borrow.Rule.Slice.PartMut.{post_of}
 use Rattle.std.proofs.lemmas.List.{drop-drop}
-use Rattle.bytes.proofs.Writes.{length_part}
-use Rattle.bytes.proofs.copies.put_fill.Goals as goal
+use Rattle.octets.proofs.Writes.{length_part}
+use Rattle.octets.proofs.copies.put_fill.Goals as goal
 
 pub returns : goal.returns
 returns c =

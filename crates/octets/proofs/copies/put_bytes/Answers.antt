@@ -1,7 +1,7 @@
 use Rattle.std.proofs.Common.{◌≡◌, ◌+◌, ◌-◌, ◌++◌, length, take, drop, ap, ◌∙◌, arith}
 use borrow.Rule.Slice.PartMut.{post_of}
 use Rattle.std.proofs.lemmas.List.{drop-drop}
-use Rattle.bytes.proofs.copies.put_bytes.Goals as goal
+use Rattle.octets.proofs.copies.put_bytes.Goals as goal
 
 pub returns : goal.returns
 returns c =

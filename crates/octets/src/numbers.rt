@@ -1,7 +1,7 @@
 // Numbers as bytes, the highest first.
 ghost use Rattle.std.specs.Prelude.{◌≡◌, ◌+◌, ◌^◌, ◌<◌, ◌≤◌, length, take, drop};
-ghost use Rattle.bytes.specs.BigEndian.{digits, number_of};
-ghost use Rattle.bytes.specs.Written.{written};
+ghost use Rattle.octets.specs.BigEndian.{digits, number_of};
+ghost use Rattle.octets.specs.Written.{written};
 
 use crate::copies::put_bytes;
 

@@ -2,7 +2,7 @@
 use Rattle.std.proofs.Common.{◌≡◌, ℕ, zero, suc, ◌+◌, ◌*◌, ◌/◌, ◌%◌, ◌^◌, ◌<◌, ◌≤◌, List, [], ◌∷◌, ◌++◌, length, get_or, take, drop, sym, refl, ap, ◌∙◌, mul_comm, pow-suc, arith, length-append, length-drop, length-take}
 use native.Mathlib.Nat.{div-div-eq-div-mul}
 use Rattle.std.proofs.lemmas.List.{get_or-take, get_or-drop}
-use Rattle.bytes.specs.BigEndian.{digits, number_from, number_of, Bytes}
+use Rattle.octets.specs.BigEndian.{digits, number_from, number_of, Bytes}
 
 pub length_digits : (k n : ℕ) → length (digits k n) ≡ k
 length_digits zero n = refl
