@@ -8,5 +8,5 @@ returns c =
     let r = c.args.row in
     let k = length rs - 1 in
     ap (λ zs. set zs 0 r)
-    (c.rotate-right.ensures.after
+    (c.rotate_right.ensures.after
     ∙ ap (λ zs. zs ++ take k rs) (drop_more rs k r (omega arith) ∙ ap (λ zs. get_or rs k r ∷ zs) (drop_all (k + 1) rs (omega arith))))

@@ -7,12 +7,12 @@ use Rattle.chains.proofs.new.link.Goals as goal
 
 pub returns : goal.returns
 returns c =
-    let w = with_items_is c.args.memory.now c.link-all.new.memory (omega arith) in
-    let e = c.link-all.ensures in
+    let w = with_items_is c.args.memory.now c.link_all.new.memory (omega arith) in
+    let e = c.link_all.ensures in
     record {
-      stands = subst (λ (m : List ℕ). Stands m c.link-all.result) (sym w) e.stands;
-      all = λ p. ap (λ (m : List ℕ). occurs p (list m c.link-all.result)) w ∙ e.all p;
+      stands = subst (λ (m : List ℕ). Stands m c.link_all.result) (sym w) e.stands;
+      all = λ p. ap (λ (m : List ℕ). occurs p (list m c.link_all.result)) w ∙ e.all p;
       count = e.count;
-      relinked = relinked_as _ _ _ _ c.link-all.result c.as-mut-slice.ensures.value (sym w) e.relinked;
+      relinked = relinked_as _ _ _ _ c.link_all.result c.as_mut_slice.ensures.value (sym w) e.relinked;
       long = refl;
     }

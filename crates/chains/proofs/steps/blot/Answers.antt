@@ -8,15 +8,15 @@ use Rattle.chains.proofs.steps.blot.Goals as goal
 pub fill-requires : goal.fill-requires
 fill-requires c =
     let mem = vec_items c.args.memory.now in
-    let v = c.as-mut-slice.ensures.value in
-    let d = c.chain-of-chain.ensures in
+    let v = c.as_mut_slice.ensures.value in
+    let d = c.chain_of-chain.ensures in
     let e = ap (λ (x : Chain). x.count) d in
     (apart_as _ mem _ (chain_of c.args.row) v d (alone mem (chain_of c.args.row) c.args.free c.requires.both), omega arith, omega (arith, c.requires.both.few))
 
 pub returns : goal.returns
 returns c =
-    let v = c.as-mut-slice.ensures.value in
-    let d = c.chain-of-chain.ensures in
+    let v = c.as_mut_slice.ensures.value in
+    let d = c.chain_of-chain.ensures in
     let row = c.args.row in
     let w = with_items_is c.args.memory.now c.fill.new.memory (omega arith) in
     record {

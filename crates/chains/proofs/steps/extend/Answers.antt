@@ -8,8 +8,8 @@ use Rattle.chains.proofs.steps.extend.Goals as goal
 
 pub returns : goal.returns
 returns c =
-    let v = c.as-mut-slice.ensures.value in
-    let d = c.chain-of-chain.ensures in
+    let v = c.as_mut_slice.ensures.value in
+    let d = c.chain_of-chain.ensures in
     let row = c.args.row in
     let bs = c.args.bytes.now in
     let w = with_items_is c.args.memory.now c.append.new.memory (omega arith) in
@@ -19,7 +19,7 @@ returns c =
       bytes =
           ap (λ (m : List ℕ). take (row.len + length bs) (joint m c.append.result)) w
           ∙ c.append.ensures.bytes
-          ∙ ap (λ (m : List ℕ). take row.len (joint m c.chain-of-chain.result) ++ bs) v
+          ∙ ap (λ (m : List ℕ). take row.len (joint m c.chain_of-chain.result) ++ bs) v
           ∙ ap (λ (x : Chain). take row.len (joint (vec_items c.args.memory.now) x) ++ bs) d;
       long = refl;
     }

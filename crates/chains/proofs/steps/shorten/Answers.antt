@@ -8,8 +8,8 @@ use Rattle.chains.proofs.steps.shorten.Goals as goal
 
 pub returns : goal.returns
 returns c =
-    let v = c.as-mut-slice.ensures.value in
-    let d = c.chain-of-chain.ensures in
+    let v = c.as_mut_slice.ensures.value in
+    let d = c.chain_of-chain.ensures in
     let row = c.args.row in
     let n = c.args.n in
     let k = c.needed-k.result in
@@ -22,7 +22,7 @@ returns c =
           ap (λ (m : List ℕ). take n (joint m c.keep.result)) w
           ∙ ap (take n) c.keep.ensures.bytes
           ∙ take-take n (60 * k) _ m
-          ∙ ap (λ (m : List ℕ). take n (joint m c.chain-of-chain.result)) v
+          ∙ ap (λ (m : List ℕ). take n (joint m c.chain_of-chain.result)) v
           ∙ ap (λ (x : Chain). take n (joint (vec_items c.args.memory.now) x)) d;
       long = refl;
     }

@@ -5,18 +5,18 @@ use Rattle.journal.proofs.Walking.{up_all}
 use Rattle.journal.proofs.Listing.{has_none, has_some}
 use Rattle.journal.proofs.append.has_blob.Goals as goal
 
-pub returns-in-default : goal.returns-in-default
-returns-in-default g c =
+pub returns-in_default : goal.returns-in_default
+returns-in_default g c =
     let v = g.S.Store.view c.args.store.now in
-    let q = c.in-ok-found.ensures in
-    let up = answered_up v.up (Ok (at_or_above c.args.b v.disk.blobs)) c.in-ok-found.field-0 q in
-    let it = answered_it v.up (at_or_above c.args.b v.disk.blobs) c.in-ok-found.field-0 q in
-    (up, sym (has_none c.args.b v.disk.blobs (it ∙ c.in-default.is)))
+    let q = c.in_ok-found.ensures in
+    let up = answered_up v.up (Ok (at_or_above c.args.b v.disk.blobs)) c.in_ok-found.field-0 q in
+    let it = answered_it v.up (at_or_above c.args.b v.disk.blobs) c.in_ok-found.field-0 q in
+    (up, sym (has_none c.args.b v.disk.blobs (it ∙ c.in_default.is)))
 
 pub returns : goal.returns
 returns g c =
     let v = g.S.Store.view c.args.store.now in
-    let q = c.in-ok-found.ensures in
-    let up = answered_up v.up (Ok (at_or_above c.args.b v.disk.blobs)) c.in-ok-found.field-0 q in
-    let it = answered_it v.up (at_or_above c.args.b v.disk.blobs) c.in-ok-found.field-0 q in
+    let q = c.in_ok-found.ensures in
+    let up = answered_up v.up (Ok (at_or_above c.args.b v.disk.blobs)) c.in_ok-found.field-0 q in
+    let it = answered_it v.up (at_or_above c.args.b v.disk.blobs) c.in_ok-found.field-0 q in
     (up, sym (has_some 0 c.args.b c.in-Some.found v.disk.blobs (up_all v (g.met.S.Store.lawful c.args.store.now)) (it ∙ c.in-Some.is)))

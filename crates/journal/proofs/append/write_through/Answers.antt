@@ -11,9 +11,9 @@ use Rattle.journal.proofs.append.write_through.Goals as goal
 pub returns : goal.returns
 returns g c sized =
     let v = g.S.Store.view c.args.store.now in
-    let w = g.S.Store.view c.write-bytes.new.store in
+    let w = g.S.Store.view c.write_bytes.new.store in
     let rule = ruled c.args.config in
     let b = blob_of rule c.args.end in
     let bs = g.K.Record.encode c.args.item in
     let e : c.write.new.out ≡ bs = written_to g.K.Record.size bs c.args.bytes.now c.write.result c.write.new.out c.write.ensures.written (c.requires.1 ∙ sym sized) in
-    subst (λ (ks : List ℕ). Asks (open_if (has b (numbers v.disk.blobs)) b ++ adding rule c.args.end ks) v c.write-bytes.result w) e c.write-bytes.ensures
+    subst (λ (ks : List ℕ). Asks (open_if (has b (numbers v.disk.blobs)) b ++ adding rule c.args.end ks) v c.write_bytes.result w) e c.write_bytes.ensures

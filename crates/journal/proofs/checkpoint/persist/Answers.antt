@@ -11,6 +11,6 @@ returns g c =
     let view = g.S.Store.view in
     let first = cond (aligned (ruled c.args.config) c.args.boundary) (DropKey Hint) (Put Hint c.args.boundary) in
     let second = Put Watermark c.args.watermark in
-    next first (second ∷ (SyncKeys ∷ [])) (view c.args.store.now) (view c.note-boundary.new.store) (view c.sync-keys.new.store) c.sync-keys.result c.in-ok-note-boundary.ensures
-    (next second (SyncKeys ∷ []) (view c.note-boundary.new.store) (view c.put.new.store) (view c.sync-keys.new.store) c.sync-keys.result c.in-ok-put.ensures
-    (one SyncKeys (view c.put.new.store) (view c.sync-keys.new.store) c.sync-keys.result c.sync-keys.ensures))
+    next first (second ∷ (SyncKeys ∷ [])) (view c.args.store.now) (view c.note_boundary.new.store) (view c.sync_keys.new.store) c.sync_keys.result c.in_ok-note_boundary.ensures
+    (next second (SyncKeys ∷ []) (view c.note_boundary.new.store) (view c.put.new.store) (view c.sync_keys.new.store) c.sync_keys.result c.in_ok-put.ensures
+    (one SyncKeys (view c.put.new.store) (view c.sync_keys.new.store) c.sync_keys.result c.sync_keys.ensures))

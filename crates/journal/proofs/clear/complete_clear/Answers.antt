@@ -7,15 +7,15 @@ use Rattle.std.proofs.lemmas.Result.{err_from_is_err_and}
 use Rattle.journal.proofs.Taken.{asks_then, asks_early}
 use Rattle.journal.proofs.clear.complete_clear.Goals as goal
 
-pub returns-in-err-remove-all : goal.returns-in-err-remove-all
-returns-in-err-remove-all g c =
+pub returns-in_err-remove_all : goal.returns-in_err-remove_all
+returns-in_err-remove_all g c =
     let v = g.S.Store.view c.args.store.now in
     let rule = ruled c.args.config in
     let t = c.args.target in
     let p = err_from_is_err_and c.from-residual.result c.from-residual.ensures.1 in
     rw (p.1, p.2)
     (asks_early (map Remove (numbers v.disk.blobs)) (Open (blob_of rule t) ∷ (DropKey Target ∷ persist rule t t)) v
-    (g.S.Store.view c.remove-all.new.store) c.in-err-remove-all.field-0.0 c.in-err-remove-all.ensures)
+    (g.S.Store.view c.remove_all.new.store) c.in_err-remove_all.field-0.0 c.in_err-remove_all.ensures)
 
 pub returns : goal.returns
 returns g c =
@@ -23,4 +23,4 @@ returns g c =
     let rule = ruled c.args.config in
     let t = c.args.target in
     asks_then (map Remove (numbers v.disk.blobs)) (Open (blob_of rule t) ∷ (DropKey Target ∷ persist rule t t)) v
-    (g.S.Store.view c.remove-all.new.store) (g.S.Store.view c.begin-at.new.store) c.begin-at.result c.in-ok-remove-all.ensures c.begin-at.ensures
+    (g.S.Store.view c.remove_all.new.store) (g.S.Store.view c.begin_at.new.store) c.begin_at.result c.in_ok-remove_all.ensures c.begin_at.ensures

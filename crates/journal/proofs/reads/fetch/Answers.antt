@@ -19,23 +19,23 @@ same c s v p b at n q laws pos eb ea en e =
     ∙ (sym (ap (λ (k : ℕ). read_of v k (min ((p - first_in c s (blob_of c p)) * c.z) MAX) c.z) eb)
     ∙ (sym (ap (λ (k : ℕ). read_of v b k c.z) ea) ∙ (sym (ap (read_of v b at) en) ∙ e)))
 
-pub returns-in-err-read : goal.returns-in-err-read
-returns-in-err-read g c =
+pub returns-in_err-read : goal.returns-in_err-read
+returns-in_err-read g c =
     let v = g.S.Store.view c.args.store.now in
     let rule = ruled c.args.config in
-    let h = c.in-err-read.ensures in
-    let y = c.in-err-read.field-0.0 in
-    let e = same rule c.args.start v c.args.position c.position-to-blob.result c.offset-of-at.result (length c.args.bytes.now) (Err y.cause) (g.met.S.Store.lawful c.args.store.now) c.args.config.ok.2 c.position-to-blob.ensures c.offset-of-at.ensures c.requires h.1 in
+    let h = c.in_err-read.ensures in
+    let y = c.in_err-read.field-0.0 in
+    let e = same rule c.args.start v c.args.position c.position_to_blob.result c.offset_of-at.result (length c.args.bytes.now) (Err y.cause) (g.met.S.Store.lawful c.args.store.now) c.args.config.ok.2 c.position_to_blob.ensures c.offset_of-at.ensures c.requires h.1 in
     let p = err_from_is_err_and c.from-residual.result c.from-residual.ensures.1 in
     rw (p.1, p.2)
-    (Copied (blob_of rule c.args.position), h.0 ∙ ap at.Copied c.position-to-blob.ensures, read_stop g.K.Record.decode rule c.args.start v c.args.position y.cause e)
+    (Copied (blob_of rule c.args.position), h.0 ∙ ap at.Copied c.position_to_blob.ensures, read_stop g.K.Record.decode rule c.args.start v c.args.position y.cause e)
 
 pub returns-in-Some : goal.returns-in-Some
 returns-in-Some g c =
     let v = g.S.Store.view c.args.store.now in
     let rule = ruled c.args.config in
     let bs = c.read.new.out in
-    let e = same rule c.args.start v c.args.position c.position-to-blob.result c.offset-of-at.result (length c.args.bytes.now) (Ok bs) (g.met.S.Store.lawful c.args.store.now) c.args.config.ok.2 c.position-to-blob.ensures c.offset-of-at.ensures c.requires c.in-ok-read.ensures in
+    let e = same rule c.args.start v c.args.position c.position_to_blob.result c.offset_of-at.result (length c.args.bytes.now) (Ok bs) (g.met.S.Store.lawful c.args.store.now) c.args.config.ok.2 c.position_to_blob.ensures c.offset_of-at.ensures c.requires c.in_ok-read.ensures in
     let l : length bs ≡ rule.z = omega arith in
     read_some g.K.Record.decode rule c.args.start v c.args.position bs c.in-Some.item e l (sym c.in-Some.ensures)
 
@@ -44,6 +44,6 @@ returns-in-None g c =
     let v = g.S.Store.view c.args.store.now in
     let rule = ruled c.args.config in
     let bs = c.read.new.out in
-    let e = same rule c.args.start v c.args.position c.position-to-blob.result c.offset-of-at.result (length c.args.bytes.now) (Ok bs) (g.met.S.Store.lawful c.args.store.now) c.args.config.ok.2 c.position-to-blob.ensures c.offset-of-at.ensures c.requires c.in-ok-read.ensures in
+    let e = same rule c.args.start v c.args.position c.position_to_blob.result c.offset_of-at.result (length c.args.bytes.now) (Ok bs) (g.met.S.Store.lawful c.args.store.now) c.args.config.ok.2 c.position_to_blob.ensures c.offset_of-at.ensures c.requires c.in_ok-read.ensures in
     let l : length bs ≡ rule.z = omega arith in
     read_none g.K.Record.decode rule c.args.start v c.args.position bs e l (sym c.in-None.ensures)

@@ -12,14 +12,14 @@ use Rattle.journal.proofs.Walking.{never_down}
 use Rattle.journal.proofs.Recovering.{lowest_is, tells_ends, admit_low, admit_over, admit_ok, none_over, over_is, weigh_wrong, span_stops, span_ends}
 use Rattle.journal.proofs.recover.measure.Goals as goal
 
-pub returns-in-err-walked : goal.returns-in-err-walked
-returns-in-err-walked g c =
+pub returns-in_err-walked : goal.returns-in_err-walked
+returns-in_err-walked g c =
     let v = g.S.Store.view c.args.store.now in
     let s = c.args.scope in
     let rule = ruled s.config in
     let E = edge_at rule s.start s.ceiling in
-    let f = c.in-err-walked.field-0.0 in
-    let h = subst (λ (n : ℕ). Walks (walk_all rule s.start (below n v.disk.blobs)) (Err f)) c.edge-at-edge.ensures c.in-err-walked.ensures in
+    let f = c.in_err-walked.field-0.0 in
+    let h = subst (λ (n : ℕ). Walks (walk_all rule s.start (below n v.disk.blobs)) (Err f)) c.edge_at-edge.ensures c.in_err-walked.ensures in
     let p = err_from_is_err_and c.from-residual.result c.from-residual.ensures.1 in
     rw (p.1, p.2) (weigh_wrong rule s.start E s.ceiling c.args.mark (walk_all rule s.start (below E v.disk.blobs)) f h)
 
@@ -29,6 +29,6 @@ returns g c =
     let s = c.args.scope in
     let rule = ruled s.config in
     let E = edge_at rule s.start s.ceiling in
-    let x = c.in-ok-walked.walked in
-    let h = subst (λ (n : ℕ). Walks (walk_all rule s.start (below n v.disk.blobs)) (Ok x)) c.edge-at-edge.ensures c.in-ok-walked.ensures in
+    let x = c.in_ok-walked.walked in
+    let h = subst (λ (n : ℕ). Walks (walk_all rule s.start (below n v.disk.blobs)) (Ok x)) c.edge_at-edge.ensures c.in_ok-walked.ensures in
     subst (λ (q : Walked). Settles (weigh rule s.start s.ceiling E c.args.mark q) c.weigh.result) (sym h) c.weigh.ensures

@@ -6,24 +6,24 @@ use Rattle.journal.specs.Configs.{ruled}
 use Rattle.journal.proofs.Recovering.{cleared_low, cleared_done, cleared_stops}
 use Rattle.journal.proofs.recover.recover_cleared.Goals as goal
 
-pub returns-in-err-complete-clear : goal.returns-in-err-complete-clear
-returns-in-err-complete-clear g c =
+pub returns-in_err-complete_clear : goal.returns-in_err-complete_clear
+returns-in_err-complete_clear g c =
     let v = g.S.Store.view c.args.store.now in
-    let w = g.S.Store.view c.complete-clear.new.store in
+    let w = g.S.Store.view c.complete_clear.new.store in
     let p = err_from_is_err_and c.from-residual.result c.from-residual.ensures.1 in
-    rw (p.1, p.2) (cleared_stops (ruled c.args.config) c.args.ceiling v w c.args.target (omega arith) c.in-err-complete-clear.field-0.0 c.requires c.in-err-complete-clear.ensures)
+    rw (p.1, p.2) (cleared_stops (ruled c.args.config) c.args.ceiling v w c.args.target (omega arith) c.in_err-complete_clear.field-0.0 c.requires c.in_err-complete_clear.ensures)
 
 pub returns-then-top-target : goal.returns-then-top-target
 returns-then-top-target g c =
     let v = g.S.Store.view c.args.store.now in
-    let w = g.S.Store.view c.complete-clear.new.store in
-    let t = c.or-max-top.ensures in
+    let w = g.S.Store.view c.complete_clear.new.store in
+    let t = c.or_max-top.ensures in
     let l : or_max c.args.ceiling < c.args.target = omega arith in
-    rw t (cleared_low (ruled c.args.config) c.args.ceiling v w c.args.target (omega arith) c.in-ok-complete-clear.ensures.1 l)
+    rw t (cleared_low (ruled c.args.config) c.args.ceiling v w c.args.target (omega arith) c.in_ok-complete_clear.ensures.1 l)
 
 pub returns : goal.returns
 returns g c =
     let v = g.S.Store.view c.args.store.now in
-    let w = g.S.Store.view c.complete-clear.new.store in
+    let w = g.S.Store.view c.complete_clear.new.store in
     let l : c.args.target ≤ or_max c.args.ceiling = omega arith in
-    cleared_done (ruled c.args.config) c.args.ceiling v w c.args.target (omega arith) c.in-ok-complete-clear.ensures.1 l
+    cleared_done (ruled c.args.config) c.args.ceiling v w c.args.target (omega arith) c.in_ok-complete_clear.ensures.1 l

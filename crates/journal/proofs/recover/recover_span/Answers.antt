@@ -12,23 +12,23 @@ use Rattle.journal.proofs.Walking.{never_down}
 use Rattle.journal.proofs.Recovering.{lowest_is, tells_ends, admit_low, admit_over, admit_ok, none_over, over_is, weigh_wrong, span_stops, span_ends}
 use Rattle.journal.proofs.recover.recover_span.Goals as goal
 
-pub returns-in-err-mark : goal.returns-in-err-mark
-returns-in-err-mark g c =
-    let v = g.S.Store.view c.args.store.now in never_down v.up v.disk.present.watermark c.in-err-mark.field-0.0.cause c.requires c.in-err-mark.ensures.1
+pub returns-in_err-mark : goal.returns-in_err-mark
+returns-in_err-mark g c =
+    let v = g.S.Store.view c.args.store.now in never_down v.up v.disk.present.watermark c.in_err-mark.field-0.0.cause c.requires c.in_err-mark.ensures.1
 
-pub returns-in-err-examine-two : goal.returns-in-err-examine-two
-returns-in-err-examine-two g c =
+pub returns-in_err-examine_two : goal.returns-in_err-examine_two
+returns-in_err-examine_two g c =
     let v = g.S.Store.view c.args.store.now in
     let s = c.args.scope in
-    let w = g.S.Store.view c.examine-two.new.store in
-    let m = answered_it v.up v.disk.present.watermark c.in-ok-mark.mark c.in-ok-mark.ensures in
-    let p = err_from_is_err_and c.from-residual-in-err-examine-two.result c.from-residual-in-err-examine-two.ensures.1 in
-    rw (p.1, p.2) (span_stops (ruled s.config) s.start s.ceiling v w (edge_of c.edge-at-edge.result) c.floor-of.result c.in-ok-mark.mark (sym m) c.floor-of.ensures c.edge-at-edge.ensures c.in-err-examine-two.field-0.0 c.in-err-examine-two.ensures)
+    let w = g.S.Store.view c.examine_two.new.store in
+    let m = answered_it v.up v.disk.present.watermark c.in_ok-mark.mark c.in_ok-mark.ensures in
+    let p = err_from_is_err_and c.from-residual-in_err-examine_two.result c.from-residual-in_err-examine_two.ensures.1 in
+    rw (p.1, p.2) (span_stops (ruled s.config) s.start s.ceiling v w (edge_of c.edge_at-edge.result) c.floor_of.result c.in_ok-mark.mark (sym m) c.floor_of.ensures c.edge_at-edge.ensures c.in_err-examine_two.field-0.0 c.in_err-examine_two.ensures)
 
 pub returns : goal.returns
 returns g c =
     let v = g.S.Store.view c.args.store.now in
     let s = c.args.scope in
-    let w = g.S.Store.view c.examine-two.new.store in
-    let m = answered_it v.up v.disk.present.watermark c.in-ok-mark.mark c.in-ok-mark.ensures in
-    span_ends (ruled s.config) s.start s.ceiling v w (edge_of c.edge-at-edge.result) c.floor-of.result c.in-ok-mark.mark (sym m) c.floor-of.ensures c.edge-at-edge.ensures c.measure.result c.in-ok-examine-two.ensures.1 c.measure.ensures
+    let w = g.S.Store.view c.examine_two.new.store in
+    let m = answered_it v.up v.disk.present.watermark c.in_ok-mark.mark c.in_ok-mark.ensures in
+    span_ends (ruled s.config) s.start s.ceiling v w (edge_of c.edge_at-edge.result) c.floor_of.result c.in_ok-mark.mark (sym m) c.floor_of.ensures c.edge_at-edge.ensures c.measure.result c.in_ok-examine_two.ensures.1 c.measure.ensures

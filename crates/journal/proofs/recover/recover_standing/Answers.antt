@@ -13,17 +13,17 @@ use Rattle.journal.proofs.Recovering.{lowest_is, tells_ends, admit_low, admit_ov
 use Rattle.rules.specs.Open.{start_at}
 use Rattle.journal.proofs.recover.recover_standing.Goals as goal
 
-pub returns-in-err-start : goal.returns-in-err-start
-returns-in-err-start g c =
+pub returns-in_err-start : goal.returns-in_err-start
+returns-in_err-start g c =
     let v = g.S.Store.view c.args.store.now in
     let rule = ruled c.args.config in
     let k : ℕ → Plan Opened = λ s. admitted rule s c.args.ceiling v.disk.blobs (spanned rule s c.args.ceiling v.disk) in
     let p = err_from_is_err_and c.from-residual.result c.from-residual.ensures.1 in
-    rw (p.1, p.2) (tells_ends (start_at rule v.disk.present.hint (lowest v.disk.blobs) k) v c.in-err-start.field-0.0 (c.in-err-start.ensures k))
+    rw (p.1, p.2) (tells_ends (start_at rule v.disk.present.hint (lowest v.disk.blobs) k) v c.in_err-start.field-0.0 (c.in_err-start.ensures k))
 
 pub returns : goal.returns
 returns g c =
     let v = g.S.Store.view c.args.store.now in
     let rule = ruled c.args.config in
     let k : ℕ → Plan Opened = λ s. admitted rule s c.args.ceiling v.disk.blobs (spanned rule s c.args.ceiling v.disk) in
-    subst (λ (p : Plan Opened). Recovers p v c.recover-from.result (g.S.Store.view c.recover-from.new.store)) (sym (c.in-ok-start.ensures k)) c.recover-from.ensures
+    subst (λ (p : Plan Opened). Recovers p v c.recover_from.result (g.S.Store.view c.recover_from.new.store)) (sym (c.in_ok-start.ensures k)) c.recover_from.ensures

@@ -8,8 +8,8 @@ use Rattle.journal.specs.Faults.{step_of_op}
 use Rattle.journal.proofs.Examining.{stood_below, stood_passed, short, stood_cut, cut_stopped}
 use Rattle.journal.proofs.suspects.examine_suspect.Goals as goal
 
-pub returns-then-b-position-to-blob : goal.returns-then-b-position-to-blob
-returns-then-b-position-to-blob g c x f =
+pub returns-then-b-position_to_blob : goal.returns-then-b-position_to_blob
+returns-then-b-position_to_blob g c x f =
     let v = g.S.Store.view c.args.store.now in
     let s = c.args.scope in
     let rule = ruled s.config in
@@ -22,7 +22,7 @@ returns-then-passed g c x f =
     let rule = ruled s.config in
     let l : blob_of rule c.args.floor ≤ c.args.b = omega arith in
     let o = c.in-Some.ensures in
-    let q = c.in-ok-passed.ensures x f in
+    let q = c.in_ok-passed.ensures x f in
     stood_passed rule s.start s.ceiling c.args.floor c.args.b x v c.requires f l o.1 (sym (ap (λ (p : Bool × ℕ). p.0) q) ∙ c.if-passed.true)
 
 pub returns-then-valid-owed : goal.returns-then-valid-owed
@@ -32,14 +32,14 @@ returns-then-valid-owed g c x f =
     let rule = ruled s.config in
     let l : blob_of rule c.args.floor ≤ c.args.b = omega arith in
     let o = c.in-Some.ensures in
-    let q = c.in-ok-passed.ensures x f in
+    let q = c.in_ok-passed.ensures x f in
     let n = ap (λ (p : Bool × ℕ). p.1) q in
     let m : valid rule s.start s.ceiling (c.args.b, x) < acknowledged rule s.start c.args.floor c.args.b = omega (arith, n, o.0) in
     short rule s.start s.ceiling c.args.floor c.args.b x v c.requires f l o.1 (sym (ap (λ (p : Bool × ℕ). p.0) q) ∙ c.if-passed.false) m
 
-pub returns-in-err-truncate : goal.returns-in-err-truncate
-returns-in-err-truncate g c =
-    let p = err_from_is_err_and c.from-residual-in-err-truncate.result c.from-residual-in-err-truncate.ensures.1 in
+pub returns-in_err-truncate : goal.returns-in_err-truncate
+returns-in_err-truncate g c =
+    let p = err_from_is_err_and c.from-residual-in_err-truncate.result c.from-residual-in_err-truncate.ensures.1 in
     rw (p.1, p.2)
     (λ x f.
     let v = g.S.Store.view c.args.store.now in
@@ -47,13 +47,13 @@ returns-in-err-truncate g c =
     let rule = ruled s.config in
     let l : blob_of rule c.args.floor ≤ c.args.b = omega arith in
     let o = c.in-Some.ensures in
-    let q = c.in-ok-passed.ensures x f in
+    let q = c.in_ok-passed.ensures x f in
     let n = ap (λ (p : Bool × ℕ). p.1) q in
     let w = g.S.Store.view c.truncate.new.store in
-    let y = c.in-err-truncate.field-0.0 in
+    let y = c.in_err-truncate.field-0.0 in
     let m : acknowledged rule s.start c.args.floor c.args.b ≤ valid rule s.start s.ceiling (c.args.b, x) = omega (arith, n, o.0) in
     cut_stopped rule s.start s.ceiling c.args.floor c.args.b x v c.requires f l o.1 (sym (ap (λ (p : Bool × ℕ). p.0) q) ∙ c.if-passed.false) w y m
-    (subst (λ (k : ℕ). (y.step ≡ step_of_op (Truncate c.args.b k)) × Refuses (Truncate c.args.b k) v y.cause w) n c.in-err-truncate.ensures))
+    (subst (λ (k : ℕ). (y.step ≡ step_of_op (Truncate c.args.b k)) × Refuses (Truncate c.args.b k) v y.cause w) n c.in_err-truncate.ensures))
 
 pub returns : goal.returns
 returns g c x f =
@@ -62,9 +62,9 @@ returns g c x f =
     let rule = ruled s.config in
     let l : blob_of rule c.args.floor ≤ c.args.b = omega arith in
     let o = c.in-Some.ensures in
-    let q = c.in-ok-passed.ensures x f in
+    let q = c.in_ok-passed.ensures x f in
     let n = ap (λ (p : Bool × ℕ). p.1) q in
     let w = g.S.Store.view c.truncate.new.store in
     let m : acknowledged rule s.start c.args.floor c.args.b ≤ valid rule s.start s.ceiling (c.args.b, x) = omega (arith, n, o.0) in
     stood_cut rule s.start s.ceiling c.args.floor c.args.b x v c.requires f l o.1 (sym (ap (λ (p : Bool × ℕ). p.0) q) ∙ c.if-passed.false) w m
-    (subst (λ (k : ℕ). Does (Truncate c.args.b k) v w) n c.in-ok-truncate.ensures)
+    (subst (λ (k : ℕ). Does (Truncate c.args.b k) v w) n c.in_ok-truncate.ensures)

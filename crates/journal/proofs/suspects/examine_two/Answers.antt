@@ -10,59 +10,59 @@ use Rattle.journal.specs.declared.fault.Fault.{Fault}
 use Rattle.journal.proofs.Suspecting.{Split, split_at, two_none, first_stops, one_only, second_stops, both}
 use Rattle.journal.proofs.suspects.examine_two.Goals as goal
 
-pub returns-in-default : goal.returns-in-default
-returns-in-default g c =
+pub returns-in_default : goal.returns-in_default
+returns-in_default g c =
     let v = g.S.Store.view c.args.store.now in
     let s = c.args.scope in
     let rule = ruled s.config in
-    (c.requires, two_none rule s.start s.ceiling c.args.floor (edge_of c.args.edge) v (sym c.in-ok-high.ensures ∙ c.in-default.is))
+    (c.requires, two_none rule s.start s.ceiling c.args.floor (edge_of c.args.edge) v (sym c.in_ok-high.ensures ∙ c.in_default.is))
 
-pub returns-in-err-examine-suspect : goal.returns-in-err-examine-suspect
-returns-in-err-examine-suspect g c =
-    let v = g.S.Store.view c.args.store.now in
-    let s = c.args.scope in
-    let rule = ruled s.config in
-    let e = edge_of c.args.edge in
-    let b = c.in-Some.high in
-    let p = split_at e b v (g.met.S.Store.lawful c.args.store.now) (sym c.in-ok-high.ensures ∙ c.in-Some.is) in
-    let w = g.S.Store.view c.examine-suspect.new.store in
-    let r = err_from_is_err_and c.from-residual-in-err-examine-suspect.result c.from-residual-in-err-examine-suspect.ensures.1 in
-    rw (r.1, r.2) (first_stops rule s.start s.ceiling c.args.floor e b v p c.in-err-examine-suspect.field-0.0 w (c.in-err-examine-suspect.ensures p.blob p.found))
-
-pub highest-below-requires-2 : goal.highest-below-requires-2
-highest-below-requires-2 g c =
+pub returns-in_err-examine_suspect : goal.returns-in_err-examine_suspect
+returns-in_err-examine_suspect g c =
     let v = g.S.Store.view c.args.store.now in
     let s = c.args.scope in
     let rule = ruled s.config in
     let e = edge_of c.args.edge in
     let b = c.in-Some.high in
-    let p = split_at e b v (g.met.S.Store.lawful c.args.store.now) (sym c.in-ok-high.ensures ∙ c.in-Some.is) in
-    (c.in-ok-examine-suspect.ensures p.blob p.found).up
+    let p = split_at e b v (g.met.S.Store.lawful c.args.store.now) (sym c.in_ok-high.ensures ∙ c.in-Some.is) in
+    let w = g.S.Store.view c.examine_suspect.new.store in
+    let r = err_from_is_err_and c.from-residual-in_err-examine_suspect.result c.from-residual-in_err-examine_suspect.ensures.1 in
+    rw (r.1, r.2) (first_stops rule s.start s.ceiling c.args.floor e b v p c.in_err-examine_suspect.field-0.0 w (c.in_err-examine_suspect.ensures p.blob p.found))
 
-pub examine-suspect-requires-2 : goal.examine-suspect-requires-2
-examine-suspect-requires-2 g c =
+pub highest_below-requires-2 : goal.highest_below-requires-2
+highest_below-requires-2 g c =
     let v = g.S.Store.view c.args.store.now in
     let s = c.args.scope in
     let rule = ruled s.config in
     let e = edge_of c.args.edge in
     let b = c.in-Some.high in
-    let p = split_at e b v (g.met.S.Store.lawful c.args.store.now) (sym c.in-ok-high.ensures ∙ c.in-Some.is) in
-    (c.in-ok-examine-suspect.ensures p.blob p.found).up
+    let p = split_at e b v (g.met.S.Store.lawful c.args.store.now) (sym c.in_ok-high.ensures ∙ c.in-Some.is) in
+    (c.in_ok-examine_suspect.ensures p.blob p.found).up
 
-pub returns-in-err-next : goal.returns-in-err-next
-returns-in-err-next g c = absurd c.in-err-next.ensures
-
-pub returns-in-default-2 : goal.returns-in-default-2
-returns-in-default-2 g c =
+pub examine_suspect-requires-2 : goal.examine_suspect-requires-2
+examine_suspect-requires-2 g c =
     let v = g.S.Store.view c.args.store.now in
     let s = c.args.scope in
     let rule = ruled s.config in
     let e = edge_of c.args.edge in
     let b = c.in-Some.high in
-    let p = split_at e b v (g.met.S.Store.lawful c.args.store.now) (sym c.in-ok-high.ensures ∙ c.in-Some.is) in
-    let u = g.S.Store.view c.examine-suspect.new.store in
-    let st = c.in-ok-examine-suspect.ensures p.blob p.found in
-    (st.up, one_only rule s.start s.ceiling c.args.floor e b v p u st (sym c.in-ok-next.ensures ∙ c.in-default-2.is))
+    let p = split_at e b v (g.met.S.Store.lawful c.args.store.now) (sym c.in_ok-high.ensures ∙ c.in-Some.is) in
+    (c.in_ok-examine_suspect.ensures p.blob p.found).up
+
+pub returns-in_err-next : goal.returns-in_err-next
+returns-in_err-next g c = absurd c.in_err-next.ensures
+
+pub returns-in_default-2 : goal.returns-in_default-2
+returns-in_default-2 g c =
+    let v = g.S.Store.view c.args.store.now in
+    let s = c.args.scope in
+    let rule = ruled s.config in
+    let e = edge_of c.args.edge in
+    let b = c.in-Some.high in
+    let p = split_at e b v (g.met.S.Store.lawful c.args.store.now) (sym c.in_ok-high.ensures ∙ c.in-Some.is) in
+    let u = g.S.Store.view c.examine_suspect.new.store in
+    let st = c.in_ok-examine_suspect.ensures p.blob p.found in
+    (st.up, one_only rule s.start s.ceiling c.args.floor e b v p u st (sym c.in_ok-next.ensures ∙ c.in_default-2.is))
 
 -- how the second ends is how both do
 ends : {A : Type 0} (c : Config) (s : ℕ) (ceiling : Option ℕ) (floor e b n : ℕ) (v u w : View) (p : Split e b v.disk.blobs) (st : Stood c s ceiling floor b p.blob v u) (o : Split b n u.disk.blobs) (r : Result A Fault)
@@ -77,9 +77,9 @@ returns g c =
     let rule = ruled s.config in
     let e = edge_of c.args.edge in
     let b = c.in-Some.high in
-    let p = split_at e b v (g.met.S.Store.lawful c.args.store.now) (sym c.in-ok-high.ensures ∙ c.in-Some.is) in
-    let u = g.S.Store.view c.examine-suspect.new.store in
-    let st = c.in-ok-examine-suspect.ensures p.blob p.found in
+    let p = split_at e b v (g.met.S.Store.lawful c.args.store.now) (sym c.in_ok-high.ensures ∙ c.in-Some.is) in
+    let u = g.S.Store.view c.examine_suspect.new.store in
+    let st = c.in_ok-examine_suspect.ensures p.blob p.found in
     let n = c.in-Some-2.next in
-    let o = split_at b n u (g.met.S.Store.lawful c.examine-suspect.new.store) (sym c.in-ok-next.ensures ∙ c.in-Some-2.is) in
-    ends rule s.start s.ceiling c.args.floor e b n v u (g.S.Store.view c.examine-suspect-2.new.store) p st o c.examine-suspect-2.result (c.examine-suspect-2.ensures o.blob o.found)
+    let o = split_at b n u (g.met.S.Store.lawful c.examine_suspect.new.store) (sym c.in_ok-next.ensures ∙ c.in-Some-2.is) in
+    ends rule s.start s.ceiling c.args.floor e b n v u (g.S.Store.view c.examine_suspect-2.new.store) p st o c.examine_suspect-2.result (c.examine_suspect-2.ensures o.blob o.found)

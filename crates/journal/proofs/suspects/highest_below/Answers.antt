@@ -18,7 +18,7 @@ returns g c =
     let v = g.S.Store.view c.args.store.now in
     let xs = v.disk.blobs in
     let top = c.match-edge.top in
-    let it = answered_it v.up (at_or_below top xs) c.in-ok-at-or-below.field-0 c.in-ok-at-or-below.ensures in
+    let it = answered_it v.up (at_or_below top xs) c.in_ok-at_or_below.field-0 c.in_ok-at_or_below.ensures in
     let e : top + 1 ≡ edge_of c.args.edge = elim c.match-edge.branch [
       | in-None w ↦ omega (arith, w.top-is, ap edge_of w.in-None.is)
       | in-Some+else-edge-eq0 w ↦ omega (arith, w.top-is, w.if-edge-eq0.false, ap edge_of w.in-Some.is)

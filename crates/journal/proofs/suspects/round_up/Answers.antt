@@ -6,4 +6,4 @@ pub returns-then-n-eq0 : goal.returns-then-n-eq0
 returns-then-n-eq0 c = round_none c.args.page c.args.n c.requires (omega arith)
 
 pub returns : goal.returns
-returns c = round_some c.args.page c.args.n c.saturating-mul.result c.requires (omega arith) c.saturating-mul.ensures
+returns c = round_some c.args.page c.args.n c.saturating_mul.result c.requires (omega arith) c.saturating_mul.ensures

@@ -13,40 +13,40 @@ blobs-init g c r w a =
     let v = g.S.Store.view c.args.store.now in
     subst (λ (ns : List ℕ). Asks (map Sync ns) v r w) (from_zero (numbers v.disk.blobs)) a
 
-pub returns-in-default : goal.returns-in-default
-returns-in-default g c =
+pub returns-in_default : goal.returns-in_default
+returns-in_default g c =
     let v = g.S.Store.view c.blobs.store in
     let ns = from c.blobs.at (numbers v.disk.blobs) in
-    let q = c.in-ok-b.ensures in
-    let up = answered_up v.up (Ok (at_or_above c.blobs.at v.disk.blobs)) c.in-ok-b.field-0 q in
-    let it = answered_it v.up (at_or_above c.blobs.at v.disk.blobs) c.in-ok-b.field-0 q in
-    c.blobs.invariant (Ok tt) v (turn_none Sync ns v (tt {0}) (from_none c.blobs.at v.disk.blobs (it ∙ c.in-default.is)) up)
+    let q = c.in_ok-b.ensures in
+    let up = answered_up v.up (Ok (at_or_above c.blobs.at v.disk.blobs)) c.in_ok-b.field-0 q in
+    let it = answered_it v.up (at_or_above c.blobs.at v.disk.blobs) c.in_ok-b.field-0 q in
+    c.blobs.invariant (Ok tt) v (turn_none Sync ns v (tt {0}) (from_none c.blobs.at v.disk.blobs (it ∙ c.in_default.is)) up)
 
-pub returns-in-err-sync : goal.returns-in-err-sync
-returns-in-err-sync g c =
+pub returns-in_err-sync : goal.returns-in_err-sync
+returns-in_err-sync g c =
     let v = g.S.Store.view c.blobs.store in
     let ns = from c.blobs.at (numbers v.disk.blobs) in
-    let q = c.in-ok-b.ensures in
-    let up = answered_up v.up (Ok (at_or_above c.blobs.at v.disk.blobs)) c.in-ok-b.field-0 q in
-    let it = answered_it v.up (at_or_above c.blobs.at v.disk.blobs) c.in-ok-b.field-0 q in
+    let q = c.in_ok-b.ensures in
+    let up = answered_up v.up (Ok (at_or_above c.blobs.at v.disk.blobs)) c.in_ok-b.field-0 q in
+    let it = answered_it v.up (at_or_above c.blobs.at v.disk.blobs) c.in_ok-b.field-0 q in
     let b = c.in-Some.b in
     let e = from_some 0 c.blobs.at b v.disk.blobs (up_all v (g.met.S.Store.lawful c.blobs.store)) (it ∙ c.in-Some.is) in
     let w = g.S.Store.view c.sync.new.store in
-    let y = c.in-err-sync.field-0.0 in
-    let p = err_from_is_err_and c.from-residual-in-err-sync.result c.from-residual-in-err-sync.ensures.1 in
-    rw (p.1, p.2) (c.blobs.invariant (Err y) w (turn_stop Sync ns (from (b + 1) (numbers v.disk.blobs)) b v w y e up c.in-err-sync.ensures))
+    let y = c.in_err-sync.field-0.0 in
+    let p = err_from_is_err_and c.from-residual-in_err-sync.result c.from-residual-in_err-sync.ensures.1 in
+    rw (p.1, p.2) (c.blobs.invariant (Err y) w (turn_stop Sync ns (from (b + 1) (numbers v.disk.blobs)) b v w y e up c.in_err-sync.ensures))
 
 pub returns-then-b : goal.returns-then-b
 returns-then-b g c =
     let v = g.S.Store.view c.blobs.store in
     let ns = from c.blobs.at (numbers v.disk.blobs) in
-    let q = c.in-ok-b.ensures in
-    let up = answered_up v.up (Ok (at_or_above c.blobs.at v.disk.blobs)) c.in-ok-b.field-0 q in
-    let it = answered_it v.up (at_or_above c.blobs.at v.disk.blobs) c.in-ok-b.field-0 q in
+    let q = c.in_ok-b.ensures in
+    let up = answered_up v.up (Ok (at_or_above c.blobs.at v.disk.blobs)) c.in_ok-b.field-0 q in
+    let it = answered_it v.up (at_or_above c.blobs.at v.disk.blobs) c.in_ok-b.field-0 q in
     let b = c.in-Some.b in
     let e = from_some 0 c.blobs.at b v.disk.blobs (up_all v (g.met.S.Store.lawful c.blobs.store)) (it ∙ c.in-Some.is) in
     let u = g.S.Store.view c.sync.new.store in
-    let d = c.in-ok-sync.ensures in
+    let d = c.in_ok-sync.ensures in
     let same : numbers u.disk.blobs ≡ numbers v.disk.blobs = ap (λ (k : Disk). numbers k.blobs) d.2 ∙ numbers_change synced b v.disk.blobs in
     let e2 = e ∙ ap (λ (ms : List ℕ). b ∷ from (b + 1) ms) (sym same) in
     let ms = from (b + 1) (numbers u.disk.blobs) in
@@ -57,9 +57,9 @@ pub blobs-smaller : goal.blobs-smaller
 blobs-smaller g c =
     let v = g.S.Store.view c.blobs.store in
     let ns = from c.blobs.at (numbers v.disk.blobs) in
-    let q = c.in-ok-b.ensures in
-    let up = answered_up v.up (Ok (at_or_above c.blobs.at v.disk.blobs)) c.in-ok-b.field-0 q in
-    let it = answered_it v.up (at_or_above c.blobs.at v.disk.blobs) c.in-ok-b.field-0 q in
+    let q = c.in_ok-b.ensures in
+    let up = answered_up v.up (Ok (at_or_above c.blobs.at v.disk.blobs)) c.in_ok-b.field-0 q in
+    let it = answered_it v.up (at_or_above c.blobs.at v.disk.blobs) c.in_ok-b.field-0 q in
     let l = above_le c.blobs.at c.in-Some.b v.disk.blobs (it ∙ c.in-Some.is) in
     omega arith
 
@@ -67,13 +67,13 @@ pub blobs-preserved : goal.blobs-preserved
 blobs-preserved g c r w a =
     let v = g.S.Store.view c.blobs.store in
     let ns = from c.blobs.at (numbers v.disk.blobs) in
-    let q = c.in-ok-b.ensures in
-    let up = answered_up v.up (Ok (at_or_above c.blobs.at v.disk.blobs)) c.in-ok-b.field-0 q in
-    let it = answered_it v.up (at_or_above c.blobs.at v.disk.blobs) c.in-ok-b.field-0 q in
+    let q = c.in_ok-b.ensures in
+    let up = answered_up v.up (Ok (at_or_above c.blobs.at v.disk.blobs)) c.in_ok-b.field-0 q in
+    let it = answered_it v.up (at_or_above c.blobs.at v.disk.blobs) c.in_ok-b.field-0 q in
     let b = c.in-Some.b in
     let e = from_some 0 c.blobs.at b v.disk.blobs (up_all v (g.met.S.Store.lawful c.blobs.store)) (it ∙ c.in-Some.is) in
     let u = g.S.Store.view c.sync.new.store in
-    let d = c.in-ok-sync.ensures in
+    let d = c.in_ok-sync.ensures in
     let same : numbers u.disk.blobs ≡ numbers v.disk.blobs = ap (λ (k : Disk). numbers k.blobs) d.2 ∙ numbers_change synced b v.disk.blobs in
     let e2 = e ∙ ap (λ (ms : List ℕ). b ∷ from (b + 1) ms) (sym same) in
     c.blobs.invariant r w (turn_done Sync ns (from (b + 1) (numbers u.disk.blobs)) b v u w r e2 up d a)

@@ -14,4 +14,4 @@ pub returns : goal.returns
 returns g c =
     let v = g.S.Store.view c.args.store.now in
     let e = edge_of c.args.edge in
-    c.is-some.ensures ∙ (ap (is_some {T = ℕ}) c.in-ok-next-below.ensures ∙ more_is (c.args.b + 1) (below e v.disk.blobs))
+    c.is_some.ensures ∙ (ap (is_some {T = ℕ}) c.in_ok-next_below.ensures ∙ more_is (c.args.b + 1) (below e v.disk.blobs))

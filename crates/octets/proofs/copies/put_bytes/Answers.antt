@@ -9,5 +9,5 @@ returns c =
     let at = c.args.at in
     let bs = c.args.bytes.now in
     let k : at + (at + length bs - at) ≡ at + length bs = omega arith in
-    ap (λ ys. take at mem ++ (ys ++ post_of at (at + length bs - at) mem)) c.copy-from-slice.ensures.after
+    ap (λ ys. take at mem ++ (ys ++ post_of at (at + length bs - at) mem)) c.copy_from_slice.ensures.after
     ∙ ap (λ zs. take at mem ++ (bs ++ zs)) (drop-drop (at + length bs - at) at mem ∙ ap (λ n. drop n mem) k)

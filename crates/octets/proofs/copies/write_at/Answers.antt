@@ -5,9 +5,9 @@ use Rattle.octets.proofs.copies.write_at.Goals as goal
 
 pub returns : goal.returns
 returns c =
-    let ws = c.put-bytes.new.memory in
-    let v = c.as-mut-slice.ensures.value in
+    let ws = c.put_bytes.new.memory in
+    let v = c.as_mut_slice.ensures.value in
     record {
-      items = with_items_is c.args.memory.now ws (omega arith) ∙ c.put-bytes.ensures ∙ ap (λ m. written m c.args.at c.args.bytes.now) v;
+      items = with_items_is c.args.memory.now ws (omega arith) ∙ c.put_bytes.ensures ∙ ap (λ m. written m c.args.at c.args.bytes.now) v;
       len = refl;
     }

@@ -9,11 +9,11 @@ use Rattle.octets.proofs.numbers.number.Goals as goal
 below_last : (n i : ℕ) → n < 256 ^ i → i < 8 → n < 72057594037927936
 below_last n i l m = let p : 256 ^ i ≤ 256 ^ 7 = pow-le-pow_right (omega arith) {i = i} {j = 7} (omega arith) in omega arith
 
-pub overflow-mul-n : goal.overflow-mul-n
-overflow-mul-n c = let l = below_last c.loop-b.n c.loop-b.b-index c.loop-b.invariant.1 (omega arith) in omega arith
+pub overflow_mul-n : goal.overflow_mul-n
+overflow_mul-n c = let l = below_last c.loop-b.n c.loop-b.b-index c.loop-b.invariant.1 (omega arith) in omega arith
 
-pub overflow-add-n : goal.overflow-add-n
-overflow-add-n c = let l = below_last c.loop-b.n c.loop-b.b-index c.loop-b.invariant.1 (omega arith) in omega arith
+pub overflow_add-n : goal.overflow_add-n
+overflow_add-n c = let l = below_last c.loop-b.n c.loop-b.b-index c.loop-b.invariant.1 (omega arith) in omega arith
 
 pub loop-b-preserved : goal.loop-b-preserved
 loop-b-preserved c =
@@ -23,7 +23,7 @@ loop-b-preserved c =
     let m = c.loop-b.invariant.1 in
     let e = take_more bs i 0 (omega arith) in
     let q = number_more (take i bs) (get_or bs i 0) in
-    (ap (λ n. n * 256 + c.from.result) c.loop-b.invariant.0 ∙ ap (λ b. number_of (take i bs) * 256 + b) c.from.ensures ∙ sym (ap number_of e ∙ q), omega (arith, c.type-inv.bytes i, c.from.ensures))
+    (ap (λ n. n * 256 + c.from.result) c.loop-b.invariant.0 ∙ ap (λ b. number_of (take i bs) * 256 + b) c.from.ensures ∙ sym (ap number_of e ∙ q), omega (arith, c.type_inv.bytes i, c.from.ensures))
 
 pub returns : goal.returns
 returns c =

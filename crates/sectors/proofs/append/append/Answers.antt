@@ -10,8 +10,8 @@ use Rattle.sectors.proofs.append.append.Goals as goal
 alone : (mem : List ℕ) (a b : Chain) → Both mem a b → Apart mem (list mem a)
 alone mem a b h = apart_part mem (list mem a) (list mem a ++ list mem b) h.apart (λ p. omega (arith, occurs_append p (list mem a) (list mem b)))
 
-pub write-past-requires : goal.write-past-requires
-write-past-requires c =
+pub write_past-requires : goal.write_past-requires
+write_past-requires c =
     let l = c.lengthen-longer.ensures in
     let mid = c.lengthen-longer.new.memory in
     let d = c.lengthen-longer.result in
@@ -30,13 +30,13 @@ returns c =
     let l = c.lengthen-longer.ensures in
     let mem = c.args.memory.now in
     let mid = c.lengthen-longer.new.memory in
-    let new = c.write-past.new.memory in
+    let new = c.write_past.new.memory in
     let d = c.lengthen-longer.result in
     let g = c.lengthen-longer.new.free in
     let long : length new ≡ length mid = omega arith in
     record {
-      moved = moved_written mem mid new c.args.chain c.args.free.now d g c.args.len c.args.bytes.now long l.moved c.write-past.ensures;
+      moved = moved_written mem mid new c.args.chain c.args.free.now d g c.args.len c.args.bytes.now long l.moved c.write_past.ensures;
       count = omega (arith, c.requires.long, l.count, c.needed.ensures);
-      bytes = bytes_written mem mid new c.args.chain c.args.free.now d g c.args.len c.args.bytes.now long l.moved c.write-past.ensures
+      bytes = bytes_written mem mid new c.args.chain c.args.free.now d g c.args.len c.args.bytes.now long l.moved c.write_past.ensures
           (alone mid d g l.moved.both) (omega (arith, c.requires.long)) (omega (arith, c.requires.long)) (omega (arith, l.count)) l.front l.payloads;
     }

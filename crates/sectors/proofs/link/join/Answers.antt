@@ -7,8 +7,8 @@ use Rattle.sectors.proofs.Paths.{inside}
 use Rattle.sectors.proofs.Cuts.{joins, last_in, first_in_lem}
 use Rattle.sectors.proofs.link.join.Goals as goal
 
-pub set-next-requires : goal.set-next-requires
-set-next-requires c =
+pub set_next-requires : goal.set_next-requires
+set_next-requires c =
     let mem = c.args.memory.now in
     let a = c.args.a in
     let b = c.args.b in
@@ -21,4 +21,4 @@ set-next-requires c =
 
 pub returns : goal.returns
 returns c =
-    joins c.args.memory.now c.set-next.new.memory c.args.a c.args.b _ (omega arith) (omega arith) c.requires c.set-next.ensures refl refl refl
+    joins c.args.memory.now c.set_next.new.memory c.args.a c.args.b _ (omega arith) (omega arith) c.requires c.set_next.ensures refl refl refl

@@ -25,13 +25,13 @@ reached mem d k r apart l e =
 pub parts-next-requires : goal.parts-next-requires
 parts-next-requires c = reached c.args.memory.now c.args.c (c.args.k - 1) c.walk-last.result c.requires.1 (omega arith) c.walk-last.ensures
 
-pub set-next-requires : goal.set-next-requires
-set-next-requires c =
+pub set_next-requires : goal.set_next-requires
+set_next-requires c =
     (reached c.args.memory.now c.args.c (c.args.k - 1) c.walk-last.result c.requires.1 (omega arith) c.walk-last.ensures, omega arith)
 
 pub returns : goal.returns
 returns c =
     let mem = c.args.memory.now in
     let d = c.args.c in
-    splits mem c.set-next.new.memory d _ _ c.args.k (omega arith) (omega arith) c.requires.0 c.requires.1 c.set-next.ensures
+    splits mem c.set_next.new.memory d _ _ c.args.k (omega arith) (omega arith) c.requires.0 c.requires.1 c.set_next.ensures
     (c.walk-last.ensures ∙ last_of_lem c.args.k (next_of mem) d.first (omega arith)) refl refl c.parts-next.ensures.next refl refl

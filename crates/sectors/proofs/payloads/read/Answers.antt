@@ -17,8 +17,8 @@ walk-s-requires c =
 pub loop-done-init : goal.loop-done-init
 loop-done-init c = (omega arith, λ d h. (refl, leads_none c.args.memory.now d c.args.at (length c.args.out.now) c.walk-s.result h))
 
-pub copy-out-s-requires : goal.copy-out-s-requires
-copy-out-s-requires c =
+pub copy_out-s-requires : goal.copy_out-s-requires
+copy_out-s-requires c =
     let mem = c.args.memory.now in
     let n = length c.args.out.now in
     let h : Suits mem c.args.c c.args.at n c.walk-s.result = record { apart = c.requires.0; within = c.requires.1; here = c.walk-s.ensures } in
@@ -37,17 +37,17 @@ loop-done-preserved c =
     let part = done + k - done in
     let long : length (take part (drop done c.loop-done.out)) ≡ k = length_part c.loop-done.out done part (omega arith) ∙ (let e : part ≡ k = omega arith in e) in
     let m : k ≡ min (60 - (at + done) % 60) (n - done) = c.min-n.ensures ∙ ap (λ j. min (60 - (at + done) % 60) (j - done)) c.loop-done.auto.out in
-    let got : c.copy-out-s.new.out ≡ take k (drop ((at + done) % 60) (payload mem c.loop-done.s)) =
-    c.copy-out-s.ensures.bytes ∙ ap (λ j. take j (drop ((at + done) % 60) (payload mem c.loop-done.s))) long in
-    let len : length c.copy-out-s.new.out ≡ k = omega arith in (
+    let got : c.copy_out-s.new.out ≡ take k (drop ((at + done) % 60) (payload mem c.loop-done.s)) =
+    c.copy_out-s.ensures.bytes ∙ ap (λ j. take j (drop ((at + done) % 60) (payload mem c.loop-done.s))) long in
+    let len : length c.copy_out-s.new.out ≡ k = omega arith in (
       omega arith,
       λ d h.
           let i = c.loop-done.invariant.1 d h in (
-            take-put_mid done part c.loop-done.out c.copy-out-s.new.out (done + k) (omega arith) (omega arith)
-                ∙ ap (λ ys. ys ++ c.copy-out-s.new.out) i.0
+            take-put_mid done part c.loop-done.out c.copy_out-s.new.out (done + k) (omega arith) (omega arith)
+                ∙ ap (λ ys. ys ++ c.copy_out-s.new.out) i.0
                 ∙ ap (λ ys. take done (drop at (joint mem d)) ++ ys) got
                 ∙ sym (turn_out mem d at n c.walk-s.result done c.loop-done.s k h i.1 (omega arith) m),
-            leads_more mem d at n done k c.loop-done.s c.copy-out-s.result i.1 (omega arith) m c.copy-out-s.ensures.next,
+            leads_more mem d at n done k c.loop-done.s c.copy_out-s.result i.1 (omega arith) m c.copy_out-s.ensures.next,
           ),
     )
 

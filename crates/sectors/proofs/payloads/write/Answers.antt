@@ -18,8 +18,8 @@ loop-done-init c =
     let mem = c.args.memory.now in
     (omega arith, λ d h. (filled_none mem d c.args.at, leads_none mem d c.args.at (length c.args.bytes.now) c.walk-s.result h))
 
-pub copy-in-s-requires : goal.copy-in-s-requires
-copy-in-s-requires c =
+pub copy_in-s-requires : goal.copy_in-s-requires
+copy_in-s-requires c =
     let mem = c.args.memory.now in
     let n = length c.args.bytes.now in
     let h : Suits mem c.args.c c.args.at n c.walk-s.result = record { apart = c.requires.0; within = c.requires.1; here = c.walk-s.ensures } in
@@ -45,9 +45,9 @@ loop-done-preserved c =
       λ d h.
           let i = c.loop-done.invariant.1 d h in
           let r = turn_in mem d at n c.walk-s.result (take done bs) c.loop-done.memory done c.loop-done.s k (take part (drop done bs))
-          c.copy-in-s.result c.copy-in-s.new.memory h c.loop-done.auto.memory (length-take-le done bs (omega arith)) i.0 i.1 (omega arith)
-          c.min-n.ensures long c.copy-in-s.ensures.stored c.copy-in-s.ensures.next in
-          (subst (λ (xs : List ℕ). Filled mem d at xs c.copy-in-s.new.memory) more r.0, r.1),
+          c.copy_in-s.result c.copy_in-s.new.memory h c.loop-done.auto.memory (length-take-le done bs (omega arith)) i.0 i.1 (omega arith)
+          c.min-n.ensures long c.copy_in-s.ensures.stored c.copy_in-s.ensures.next in
+          (subst (λ (xs : List ℕ). Filled mem d at xs c.copy_in-s.new.memory) more r.0, r.1),
     )
 
 pub returns : goal.returns

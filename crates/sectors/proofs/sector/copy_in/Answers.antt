@@ -8,5 +8,5 @@ returns c =
     let mem = c.args.memory.now in
     let s = c.args.s in
     let bs = c.args.bytes.now in
-    let h = subst (Stored mem s c.args.from bs) (sym c.put-bytes.ensures) (stored mem s c.args.from bs c.requires.0 c.requires.1) in
+    let h = subst (Stored mem s c.args.from bs) (sym c.put_bytes.ensures) (stored mem s c.args.from bs c.requires.0 c.requires.1) in
     record { next = c.parts-next.ensures.next ∙ h.nexts s; stored = h }

@@ -7,4 +7,4 @@ returns c =
     let mem = c.args.memory.now in
     let s = c.args.s in
     let e = rest_of mem _ s _ c.requires refl refl in
-    record { next = c.from-be-bytes.ensures ∙ next_of_lem mem s c.requires; rest = e; long = ap length e ∙ length_payload mem s c.requires }
+    record { next = c.from_be_bytes.ensures ∙ next_of_lem mem s c.requires; rest = e; long = ap length e ∙ length_payload mem s c.requires }

@@ -7,9 +7,9 @@ use Rattle.sectors.proofs.set_up.link_all.Goals as goal
 pub loop-s-preserved : goal.loop-s-preserved
 loop-s-preserved c =
     let s = c.loop-s.s in
-    let e = c.set-next.ensures in
+    let e = c.set_next.ensures in
     let i = c.loop-s.invariant in
-    let new = next_of c.set-next.new.memory in (
+    let new = next_of c.set_next.new.memory in (
       λ q a b. elim (cases_eq q s) [
         | inl z ↦ ap new z ∙ e.here ∙ ap (λ n. n + 1) (sym z)
         | inr z ↦ e.others q z ∙ i.0 q a (omega arith)
@@ -22,8 +22,8 @@ loop-s-preserved c =
 pub returns : goal.returns
 returns c =
     let n = c.args.n in
-    let new = c.set-next-2.new.memory in
-    let e = c.set-next-2.ensures in
+    let new = c.set_next-2.new.memory in
+    let e = c.set_next-2.ensures in
     let i = c.loop-s.invariant in
     let h : Rises (next_of new) (n - 1) 1 = λ q l m. e.others q (λ z. omega arith) ∙ i.0 q (omega arith) (omega arith) in
     record {

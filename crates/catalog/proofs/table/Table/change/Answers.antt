@@ -5,8 +5,8 @@ use Rattle.catalog.specs.Rows.{none, numbers_of, Ordered}
 use Rattle.catalog.proofs.Live.{map_same, take_set_in, each_set}
 use Rattle.catalog.proofs.table.Table.change.Goals as goal
 
-pub invariant-of-self : goal.invariant-of-self
-invariant-of-self c =
+pub invariant_of-self : goal.invariant_of-self
+invariant_of-self c =
     let t = c.args.self.now in
     let rs = t.rows in
     let n = t.count in

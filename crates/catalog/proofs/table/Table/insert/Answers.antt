@@ -5,10 +5,10 @@ use Rattle.catalog.proofs.Moves.{inserted_rows}
 use Rattle.catalog.proofs.Kept.{Kept, kept_inserted}
 use Rattle.catalog.proofs.table.Table.insert.Goals as goal
 
-pub invariant-of-self : goal.invariant-of-self
-invariant-of-self c =
+pub invariant_of-self : goal.invariant_of-self
+invariant_of-self c =
     let t = c.args.self.now in
-    let e = inserted_rows t.rows t.count c.args.i (fresh_row c.args.b c.args.place) c.shift-in.new.rows c.requires.within (omega arith) c.shift-in.ensures in
+    let e = inserted_rows t.rows t.count c.args.i (fresh_row c.args.b c.args.place) c.shift_in.new.rows c.requires.within (omega arith) c.shift_in.ensures in
     let k = subst (λ (rs : List Row). Kept rs (t.count + 1)) (sym e) (kept_inserted t c.args.i c.args.b c.args.place c.requires.few c.requires.within (omega arith) c.requires.sought c.requires.fresh) in
     (k.long, (k.few, (k.rising, (k.fit, (k.ordered, tt)))))
 
@@ -17,5 +17,5 @@ returns c =
     let t = c.args.self.now in
     record {
       count = refl;
-      rows = inserted_rows t.rows t.count c.args.i (fresh_row c.args.b c.args.place) c.shift-in.new.rows c.requires.within (omega arith) c.shift-in.ensures;
+      rows = inserted_rows t.rows t.count c.args.i (fresh_row c.args.b c.args.place) c.shift_in.new.rows c.requires.within (omega arith) c.shift_in.ensures;
     }

@@ -5,10 +5,10 @@ use Rattle.catalog.proofs.Moves.{removed_rows}
 use Rattle.catalog.proofs.Kept.{Kept, kept_removed}
 use Rattle.catalog.proofs.table.Table.remove.Goals as goal
 
-pub invariant-of-self : goal.invariant-of-self
-invariant-of-self c =
+pub invariant_of-self : goal.invariant_of-self
+invariant_of-self c =
     let t = c.args.self.now in
-    let e = removed_rows t.rows t.count c.args.i none c.rotate-left.new.self (omega arith) (omega arith) c.rotate-left.ensures.after in
+    let e = removed_rows t.rows t.count c.args.i none c.rotate_left.new.self (omega arith) (omega arith) c.rotate_left.ensures.after in
     let k = subst (λ (rs : List Row). Kept rs (t.count - 1)) (sym e) (kept_removed t c.args.i (omega arith)) in
     (k.long, (k.few, (k.rising, (k.fit, (k.ordered, tt)))))
 
@@ -17,5 +17,5 @@ returns c =
     let t = c.args.self.now in
     record {
       count = refl;
-      rows = removed_rows t.rows t.count c.args.i none c.rotate-left.new.self (omega arith) (omega arith) c.rotate-left.ensures.after;
+      rows = removed_rows t.rows t.count c.args.i none c.rotate_left.new.self (omega arith) (omega arith) c.rotate_left.ensures.after;
     }

@@ -38,14 +38,14 @@ grows s b i bs new u d g r h long moved count bytes e rows same =
     (ap length e' ∙ length-append (take row.len (joint (vec_items s.memory) (chain_of row))) bs ∙ ap (λ k. k + length bs) h.held.long)
     (rows ∙ ap (set s.catalog.table.rows i) e) same
 
-pub invariant-of-self-4 : goal.invariant-of-self-4
-invariant-of-self-4 c =
+pub invariant_of-self-4 : goal.invariant_of-self-4
+invariant_of-self-4 c =
     let s = c.args.self.now in
     let x = c.extend-chain in
     let new = x.new.memory in
-    let b = grows s c.args.b c.in-Some.i c.args.bytes.now (vec_items new) c.change.new.self x.result x.new.free c.placed-row.result
+    let b = grows s c.args.b c.in-Some.i c.args.bytes.now (vec_items new) c.change.new.self x.result x.new.free c.placed_row.result
     c.in-Some.ensures (omega (arith, s.memory.ok, new.ok, x.ensures.long)) x.ensures.moved x.ensures.count x.ensures.bytes
-    (c.placed-row.ensures ∙ ap (λ (y : Row). placed_row y x.result) c.grown.ensures) c.change.ensures.rows c.change.ensures.count in
+    (c.placed_row.ensures ∙ ap (λ (y : Row). placed_row y x.result) c.grown.ensures) c.change.ensures.rows c.change.ensures.count in
     (s.cut ∙ ap (λ m. usable (m / 64)) (sym x.ensures.long), owed s.sectors (vec_items new) (live c.change.new.self) x.new.free b.chains)
 
 pub returns : goal.returns
@@ -55,9 +55,9 @@ returns c =
     let new = x.new.memory in
     let h = c.in-Some.ensures in
     let bs = c.args.bytes.now in
-    let b = grows s c.args.b c.in-Some.i bs (vec_items new) c.change.new.self x.result x.new.free c.placed-row.result
+    let b = grows s c.args.b c.in-Some.i bs (vec_items new) c.change.new.self x.result x.new.free c.placed_row.result
     h (omega (arith, s.memory.ok, new.ok, x.ensures.long)) x.ensures.moved x.ensures.count x.ensures.bytes
-    (c.placed-row.ensures ∙ ap (λ (y : Row). placed_row y x.result) c.grown.ensures) c.change.ensures.rows c.change.ensures.count in
+    (c.placed_row.ensures ∙ ap (λ (y : Row). placed_row y x.result) c.grown.ensures) c.change.ensures.rows c.change.ensures.count in
     record {
       wrote = (
         search rules,

@@ -5,8 +5,8 @@ use Rattle.chains.specs.Covering.{chained}
 use Rattle.chains.specs.Contents.{free_sectors}
 use Rattle.chains.proofs.chains.Chains.limit.Goals as goal
 
-pub returns-in-default : goal.returns-in-default
-returns-in-default c =
+pub returns-in_default : goal.returns-in_default
+returns-in_default c =
     let s = c.args.self.now in
-    let f = c.in-default.ensures in
+    let f = c.in_default.ensures in
     omega (arith, ap unused f, ap bytes_there f, free_sectors s.sectors (vec_items s.memory) s.catalog.table s.free (chained s))

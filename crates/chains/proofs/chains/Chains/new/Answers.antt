@@ -13,12 +13,12 @@ none_in_use n b g t e z =
 
 pub returns : goal.returns
 returns c =
-    let n : c.in-use-sectors.result ≡ usable (vec_len c.args.memory / 64) = c.in-use-sectors.ensures ∙ ap (λ k. usable (k / 64)) c.len.ensures in
+    let n : c.in_use-sectors.result ≡ usable (vec_len c.args.memory / 64) = c.in_use-sectors.ensures ∙ ap (λ k. usable (k / 64)) c.len.ensures in
     record {
       fresh = search rules;
       memory = c.link-free.ensures.relinked;
       long = c.link-free.ensures.long;
       sectors = n;
-      unfit = λ z b. none_in_use c.in-use-sectors.result b _ c.new-table.result c.new-table.ensures (n ∙ z);
+      unfit = λ z b. none_in_use c.in_use-sectors.result b _ c.new_table.result c.new_table.ensures (n ∙ z);
       calls = refl;
     }

@@ -16,8 +16,8 @@ returns-then-not-self c =
     let h = c.stop.ensures.called (Remove c.args.b) (content_of s) (room_in s.sectors) (stands s) in
     record { wrote = h.0; counts = h.1; memory = unmoved _ _ _ refl }
 
-pub invariant-of-self-4 : goal.invariant-of-self-4
-invariant-of-self-4 c =
+pub invariant_of-self-4 : goal.invariant_of-self-4
+invariant_of-self-4 c =
     let s = c.args.self.now in
     let x = c.shorten-self in
     let new = x.new.memory in

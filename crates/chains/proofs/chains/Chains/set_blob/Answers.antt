@@ -36,8 +36,8 @@ becomes_given t b i bs sound safe new u d g r h long moved n e is rows count =
     becomes t b i _ new u d g (placed_row v d) h long moved (placed_chain v d n) refl q (ap (λ (y : Blob). length y.bytes) q) (rows ∙ ap (set t.catalog.table.rows i) is) count
 
 -- the blob has a row by now
-pub returns-in-default : goal.returns-in-default
-returns-in-default c = absurd (insert_finds c.args.b (blobs c.args.self.now) (ap (λ xs. find xs c.args.b) (sym c.if-not-make.ensures.2) ∙ c.in-default.ensures))
+pub returns-in_default : goal.returns-in_default
+returns-in_default c = absurd (insert_finds c.args.b (blobs c.args.self.now) (ap (λ xs. find xs c.args.b) (sym c.if-not-make.ensures.2) ∙ c.in_default.ensures))
 
 -- the sectors that it had, and the free ones, are enough
 enough : (s t : Chains) (b i n r : ℕ) → Held b t i → t.free ≡ s.free → blobs t ≡ insert b (blobs s) → r ≡ room_in s.sectors (blobs s) b + bytes_there (find (blobs s) b)
@@ -57,8 +57,8 @@ replace-chain-requires c =
       room = enough c.args.self.now c.make.new.self c.args.b c.in-Some.i (length c.args.bytes.now) c.limit.result h m.0.free m.2 c.limit.ensures (omega arith);
     }
 
-pub invariant-of-self : goal.invariant-of-self
-invariant-of-self c =
+pub invariant_of-self : goal.invariant_of-self
+invariant_of-self c =
     let t = c.make.new.self in
     let x = c.replace-chain in
     let new = x.new.memory in

@@ -38,8 +38,8 @@ module _ (s : Chains) (i : ℕ) (how : Restart) (m k : ℕ) (r : Row) (l : i < s
       (subst (λ (x : Row). Filled (vec_items s.memory) (chain_of x) m (replicate (x.len - m) b) new) h.is filled)
       (ap (filled_left m) h.is) rows
 
-pub invariant-of-self : goal.invariant-of-self
-invariant-of-self c =
+pub invariant_of-self : goal.invariant_of-self
+invariant_of-self c =
     let s = c.args.self.now in
     let x = c.shorten-chain in
     let r = c.row-row.result in
@@ -55,8 +55,8 @@ invariant-of-self c =
       ),
     )
 
-pub invariant-of-self-in-Fill : goal.invariant-of-self-in-Fill
-invariant-of-self-in-Fill c =
+pub invariant_of-self-in-Fill : goal.invariant_of-self-in-Fill
+invariant_of-self-in-Fill c =
     let s = c.args.self.now in
     let x = c.blot in
     let r = c.row-row.result in

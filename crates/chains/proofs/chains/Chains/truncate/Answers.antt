@@ -39,14 +39,14 @@ cuts s b i n new u d g r h l long moved count bytes e rows same =
     blob (ap (λ (y : Blob). length y.bytes) blob ∙ length-take-le n (blob_in s row).bytes (omega (arith, h.held.long)))
     (rows ∙ ap (set s.catalog.table.rows i) e) same
 
-pub invariant-of-self-4 : goal.invariant-of-self-4
-invariant-of-self-4 c =
+pub invariant_of-self-4 : goal.invariant_of-self-4
+invariant_of-self-4 c =
     let s = c.args.self.now in
     let x = c.shorten-chain in
     let new = x.new.memory in
-    let b = cuts s c.args.b c.in-Some.i c.args.n (vec_items new) c.change.new.self x.result x.new.free c.placed-row.result
+    let b = cuts s c.args.b c.in-Some.i c.args.n (vec_items new) c.change.new.self x.result x.new.free c.placed_row.result
     c.in-Some.ensures (omega arith) (omega (arith, s.memory.ok, new.ok, x.ensures.long)) x.ensures.moved x.ensures.count x.ensures.bytes
-    (c.placed-row.ensures ∙ ap (λ (y : Row). placed_row y x.result) c.cut.ensures) c.change.ensures.rows c.change.ensures.count in
+    (c.placed_row.ensures ∙ ap (λ (y : Row). placed_row y x.result) c.cut.ensures) c.change.ensures.rows c.change.ensures.count in
     (s.cut ∙ ap (λ m. usable (m / 64)) (sym x.ensures.long), owed s.sectors (vec_items new) (live c.change.new.self) x.new.free b.chains)
 
 pub returns : goal.returns
@@ -56,9 +56,9 @@ returns c =
     let new = x.new.memory in
     let h = c.in-Some.ensures in
     let n = c.args.n in
-    let b = cuts s c.args.b c.in-Some.i n (vec_items new) c.change.new.self x.result x.new.free c.placed-row.result
+    let b = cuts s c.args.b c.in-Some.i n (vec_items new) c.change.new.self x.result x.new.free c.placed_row.result
     h (omega arith) (omega (arith, s.memory.ok, new.ok, x.ensures.long)) x.ensures.moved x.ensures.count x.ensures.bytes
-    (c.placed-row.ensures ∙ ap (λ (y : Row). placed_row y x.result) c.cut.ensures) c.change.ensures.rows c.change.ensures.count in
+    (c.placed_row.ensures ∙ ap (λ (y : Row). placed_row y x.result) c.cut.ensures) c.change.ensures.rows c.change.ensures.count in
     record {
       wrote = (
         search rules,

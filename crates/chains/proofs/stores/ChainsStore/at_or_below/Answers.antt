@@ -3,4 +3,4 @@ use Rattle.chains.specs.Contents.{stands}
 use Rattle.chains.proofs.stores.ChainsStore.at_or_below.Goals as goal
 
 pub returns : goal.returns
-returns c = let s = c.args.self.now in c.at-or-below.ensures (content_of s) (room_in s.sectors) (stands s)
+returns c = let s = c.args.self.now in c.at_or_below.ensures (content_of s) (room_in s.sectors) (stands s)

@@ -6,5 +6,5 @@ use Rattle.chains.proofs.stores.ChainsStore.drop_key.Goals as goal
 pub returns : goal.returns
 returns c =
     let s = c.args.self.now in
-    let h = c.drop-key.ensures.called (content_of s) (room_in s.sectors) (stands s) in
+    let h = c.drop_key.ensures.called (content_of s) (room_in s.sectors) (stands s) in
     record { wrote = h.0; counts = h.1; memory = refl }

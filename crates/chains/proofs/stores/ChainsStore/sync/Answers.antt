@@ -6,8 +6,8 @@ use Rattle.chains.specs.Covering.{chained, owed}
 use Rattle.chains.proofs.Changes.{chained_same}
 use Rattle.chains.proofs.stores.ChainsStore.sync.Goals as goal
 
-pub invariant-of-self : goal.invariant-of-self
-invariant-of-self c =
+pub invariant_of-self : goal.invariant_of-self
+invariant_of-self c =
     let s = c.args.self.now in
     let mem = vec_items s.memory in
     let u = c.sync.new.self.table in

@@ -21,7 +21,7 @@ returns-in-Ok g c =
     let rule = ruled l.config in
     let b = c.min-near.result / l.config.records in
     let e : b ≡ blob_of rule (min c.args.position l.held.end) = ap (λ (k : ℕ). k / l.config.records) c.min-near.ensures in
-    (prune_done rule (held_of l.held) v c.args.position b e (g.S.Store.view c.prune-to.new.store) c.if-first-self.false c.in-Ok.ensures, refl)
+    (prune_done rule (held_of l.held) v c.args.position b e (g.S.Store.view c.prune_to.new.store) c.if-first-self.false c.in-Ok.ensures, refl)
 
 pub returns-in-Err : goal.returns-in-Err
 returns-in-Err g c =
@@ -30,4 +30,4 @@ returns-in-Err g c =
     let rule = ruled l.config in
     let b = c.min-near.result / l.config.records in
     let e : b ≡ blob_of rule (min c.args.position l.held.end) = ap (λ (k : ℕ). k / l.config.records) c.min-near.ensures in
-    prune_stopped rule (held_of l.held) v c.args.position b e (g.S.Store.view c.prune-to.new.store) c.in-Err.e c.if-first-self.false c.in-Err.ensures
+    prune_stopped rule (held_of l.held) v c.args.position b e (g.S.Store.view c.prune_to.new.store) c.in-Err.e c.if-first-self.false c.in-Err.ensures

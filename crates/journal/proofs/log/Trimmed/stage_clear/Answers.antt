@@ -9,9 +9,9 @@ returns-then-target-eq18446744073709551615 g c = (refl, stage_refused (g.S.Store
 pub returns-in-Ok : goal.returns-in-Ok
 returns-in-Ok g c =
     let l : c.args.target < MAX = omega arith in
-    (stage_done (g.S.Store.view c.args.self.store) (g.S.Store.view c.stage-clear.new.store) c.args.target l c.in-Ok.ensures, (refl, refl))
+    (stage_done (g.S.Store.view c.args.self.store) (g.S.Store.view c.stage_clear.new.store) c.args.target l c.in-Ok.ensures, (refl, refl))
 
 pub returns-in-Err : goal.returns-in-Err
 returns-in-Err g c =
     let l : c.args.target < MAX = omega arith in
-    stage_stopped (g.S.Store.view c.args.self.store) (g.S.Store.view c.stage-clear.new.store) c.args.target c.in-Err.e l c.in-Err.ensures
+    stage_stopped (g.S.Store.view c.args.self.store) (g.S.Store.view c.stage_clear.new.store) c.args.target c.in-Err.e l c.in-Err.ensures

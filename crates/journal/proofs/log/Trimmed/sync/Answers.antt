@@ -9,7 +9,7 @@ use Rattle.journal.proofs.log.Trimmed.sync.Goals as goal
 pub returns-in-Ok : goal.returns-in-Ok
 returns-in-Ok g c =
     let v = g.S.Store.view c.args.self.store in
-    let w = g.S.Store.view c.sync-and-persist.new.store in
+    let w = g.S.Store.view c.sync_and_persist.new.store in
     let h = c.args.self.held in
     let o : Opened = record { start = h.start; end = h.end; mark = h.end; bounded = h.bounded; edge = no_edge } in
     let os = map Sync (numbers v.disk.blobs) ++ persist (ruled c.args.self.config) h.start h.end in
@@ -18,7 +18,7 @@ returns-in-Ok g c =
 pub returns-in-Err : goal.returns-in-Err
 returns-in-Err g c =
     let v = g.S.Store.view c.args.self.store in
-    let w = g.S.Store.view c.sync-and-persist.new.store in
+    let w = g.S.Store.view c.sync_and_persist.new.store in
     let h = c.args.self.held in
     let o : Opened = record { start = h.start; end = h.end; mark = h.end; bounded = h.bounded; edge = no_edge } in
     let os = map Sync (numbers v.disk.blobs) ++ persist (ruled c.args.self.config) h.start h.end in

@@ -9,7 +9,7 @@ use Rattle.journal.proofs.staged.StagedClear.complete.Goals as goal
 pub returns-in-Ok : goal.returns-in-Ok
 returns-in-Ok g c =
     let v = g.S.Store.view c.args.store in
-    let w = g.S.Store.view c.complete-clear.new.store in
+    let w = g.S.Store.view c.complete_clear.new.store in
     let t = c.args.self.target in
     let o : Opened = record { start = t; end = t; mark = t; bounded = false; edge = no_edge } in
     (asks_done (answer o) (clearing (ruled c.args.self.config) t (numbers v.disk.blobs)) v w w (answered o) c.in-Ok.ensures (refl, refl), refl)
@@ -17,7 +17,7 @@ returns-in-Ok g c =
 pub returns-in-Err : goal.returns-in-Err
 returns-in-Err g c =
     let v = g.S.Store.view c.args.store in
-    let w = g.S.Store.view c.complete-clear.new.store in
+    let w = g.S.Store.view c.complete_clear.new.store in
     let t = c.args.self.target in
     let o : Opened = record { start = t; end = t; mark = t; bounded = false; edge = no_edge } in
     told_stops (asks_stopped (answer o) (clearing (ruled c.args.self.config) t (numbers v.disk.blobs)) v w c.in-Err.e c.in-Err.ensures)

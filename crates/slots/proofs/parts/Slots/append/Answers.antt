@@ -14,8 +14,8 @@ use Rattle.slots.proofs.Change.{kept_changed, kept_same, room_grown, grown_blob,
 use Rattle.slots.proofs.Outside.{unmoved, outside_part}
 use Rattle.slots.proofs.parts.Slots.append.Goals as goal
 
-pub invariant-of-self : goal.invariant-of-self
-invariant-of-self c =
+pub invariant_of-self : goal.invariant_of-self
+invariant_of-self c =
     let s = c.args.self.now in
     let k = kept_same s c.stop.new.self.table (same_refl s.catalog.table c.stop.new.self.table c.stop.ensures.table) in
     (s.cut, (k.0, (k.1, tt)))
@@ -26,14 +26,14 @@ returns-then-not-self c =
     let h = c.stop.ensures.called (Append c.args.b c.args.bytes.now) (content_of s) (room_in s.each) (stands s) in
     record { wrote = h.0; counts = h.1; memory = unmoved _ _ _ refl }
 
-pub invariant-of-self-4 : goal.invariant-of-self-4
-invariant-of-self-4 c =
+pub invariant_of-self-4 : goal.invariant_of-self-4
+invariant_of-self-4 c =
     let s = c.args.self.now in
     let i = c.in-Some.i in
     let h = c.in-Some.ensures in
     let rows = c.change.ensures.rows ∙ ap (set s.catalog.table.rows i) c.grown.ensures in
     let k = kept_changed s i (grown_row (length c.args.bytes.now) (row_at s i)) c.change.new.self rows c.change.ensures.count h.within (omega arith) refl in
-    (s.cut ∙ ap (λ m. m / 64) (sym c.write-at.ensures.len), (k.0, (k.1, tt)))
+    (s.cut ∙ ap (λ m. m / 64) (sym c.write_at.ensures.len), (k.0, (k.1, tt)))
 
 pub returns : goal.returns
 returns c =
@@ -44,12 +44,12 @@ returns c =
     let rows = c.change.ensures.rows ∙ ap (set s.catalog.table.rows i) c.grown.ensures in
     let at = (row_at s i).place * s.each + (row_at s i).len in
     let e =
-    ap (λ m. blobs_by (blob_at (part_of m s.each)) c.change.new.self) c.write-at.ensures.items
+    ap (λ m. blobs_by (blob_at (part_of m s.each)) c.change.new.self) c.write_at.ensures.items
     ∙ changed s.catalog.table i (grown_row (length bs) (row_at s i)) c.change.new.self rows c.change.ensures.count
     (blob_in s) (blob_at (part_of (written (vec_items s.memory) at bs) s.each)) c.args.b (grown bs) h.here h.here.number
     (grown_blob s i bs h.within (omega arith)) (other_blobs s i at bs h.within (omega arith) (omega arith)) in
     record {
       wrote = (search rules, search rules, on_disk _ _ _ _ e, refl, room_grown s.each c.args.b bs _ _ _ e h.found (omega arith));
       counts = omega arith;
-      memory = outside_part s _ i at bs h.within c.write-at.ensures.items c.write-at.ensures.len (omega arith) (omega arith) h.held.part_within _ h.here.number;
+      memory = outside_part s _ i at bs h.within c.write_at.ensures.items c.write_at.ensures.len (omega arith) (omega arith) h.held.part_within _ h.here.number;
     }

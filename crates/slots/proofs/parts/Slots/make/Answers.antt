@@ -22,8 +22,8 @@ returns-then-self-eq64 c =
     let f = is_full s (omega arith) in
     (refl, simp (m, f))
 
-pub invariant-of-self : goal.invariant-of-self
-invariant-of-self c =
+pub invariant_of-self : goal.invariant_of-self
+invariant_of-self c =
     let s = c.args.self.now in
     let i = c.seek-i.result in (
       (s.catalog.held, (s.catalog.kept, tt)),

@@ -7,8 +7,8 @@ use Rattle.slots.specs.Lookup.{stands}
 use Rattle.slots.proofs.Change.{kept_same, same_disk}
 use Rattle.slots.proofs.parts.Slots.open.Goals as goal
 
-pub invariant-of-self : goal.invariant-of-self
-invariant-of-self c =
+pub invariant_of-self : goal.invariant_of-self
+invariant_of-self c =
     let s = c.args.self.now in
     let k = kept_same s c.stop.new.self.table (same_refl s.catalog.table c.stop.new.self.table c.stop.ensures.table) in
     (s.cut, (k.0, (k.1, tt)))

@@ -38,16 +38,16 @@ returns-then-not-make c =
     }
 
 -- the blob has a row by now
-pub returns-in-default : goal.returns-in-default
-returns-in-default c = absurd (insert_finds c.args.b (blobs c.args.self.now) (ap (λ xs. find xs c.args.b) (sym c.if-not-make.ensures.2) ∙ c.in-default.ensures))
+pub returns-in_default : goal.returns-in_default
+returns-in_default c = absurd (insert_finds c.args.b (blobs c.args.self.now) (ap (λ xs. find xs c.args.b) (sym c.if-not-make.ensures.2) ∙ c.in_default.ensures))
 
-pub invariant-of-self : goal.invariant-of-self
-invariant-of-self c =
+pub invariant_of-self : goal.invariant_of-self
+invariant_of-self c =
     let t = c.make.new.self in
     let h = c.in-Some.ensures in
     let m = c.if-not-make.ensures.0.each in
     let k = kept_changed t c.in-Some.i _ c.change.new.self c.change.ensures.rows c.change.ensures.count h.within (omega arith) refl in
-    ((t.catalog.held, (t.catalog.kept, tt)), (t.cut ∙ ap (λ m. m / 64) (sym c.write-at.ensures.len), (k.0, (k.1, tt))))
+    ((t.catalog.held, (t.catalog.kept, tt)), (t.cut ∙ ap (λ m. m / 64) (sym c.write_at.ensures.len), (k.0, (k.1, tt))))
 
 pub returns : goal.returns
 returns c =
@@ -64,7 +64,7 @@ returns c =
     let r = sized (row_at t i) (length bs) c.args.sound c.args.safe in
     let new = blob_at (part_of (written (vec_items t.memory) at bs) t.each) in
     let e =
-    ap (λ m. blobs_by (blob_at (part_of m t.each)) c.change.new.self) c.write-at.ensures.items
+    ap (λ m. blobs_by (blob_at (part_of m t.each)) c.change.new.self) c.write_at.ensures.items
     ∙ changed t.catalog.table i r c.change.new.self c.change.ensures.rows c.change.ensures.count
     (blob_in t) new b (λ _. x) h.here h.here.number (set_blob_is t i bs c.args.sound c.args.safe h.within (omega arith))
     (other_blobs t i at bs h.within (omega arith) (omega arith))
@@ -73,5 +73,5 @@ returns c =
     record {
       set = (unfit_is s b x (omega arith) (omega arith) ∙ simp (q, m.1), as_disk m.0.present m.0.saved e, m.0.up, refl);
       calls = m.0.calls;
-      memory = written_back s t _ i b bs r h.within m.0.memory refl c.change.ensures.rows c.change.ensures.count refl h.here.number c.write-at.ensures.items c.write-at.ensures.len (omega arith) h.held.part_within;
+      memory = written_back s t _ i b bs r h.within m.0.memory refl c.change.ensures.rows c.change.ensures.count refl h.here.number c.write_at.ensures.items c.write_at.ensures.len (omega arith) h.held.part_within;
     }

@@ -10,8 +10,8 @@ use Rattle.slots.proofs.Outside.{unmoved, outside_part}
 use Rattle.slots.proofs.Settles.{settled_cut, settled_fill}
 use Rattle.slots.proofs.parts.Slots.settle.Goals as goal
 
-pub invariant-of-self : goal.invariant-of-self
-invariant-of-self c =
+pub invariant_of-self : goal.invariant_of-self
+invariant_of-self c =
     let s = c.args.self.now in
     let e = c.row-row.ensures.is in
     let k =
@@ -19,14 +19,14 @@ invariant-of-self c =
     (ap (λ (x : Row). x.place) e) in
     ((s.catalog.held, (s.catalog.kept, tt)), (s.cut, (k.0, (k.1, tt))))
 
-pub invariant-of-self-in-Fill : goal.invariant-of-self-in-Fill
-invariant-of-self-in-Fill c =
+pub invariant_of-self-in-Fill : goal.invariant_of-self-in-Fill
+invariant_of-self-in-Fill c =
     let s = c.args.self.now in
     let e = c.row-row.ensures.is in
     let k =
     kept_changed s c.args.i _ c.change-in-Fill.new.self c.change-in-Fill.ensures.rows c.change-in-Fill.ensures.count c.requires (omega arith)
     (ap (λ (x : Row). x.place) e) in
-    ((s.catalog.held, (s.catalog.kept, tt)), (s.cut ∙ ap (λ m. m / 64) (sym c.fill-at.ensures.len), (k.0, (k.1, tt))))
+    ((s.catalog.held, (s.catalog.kept, tt)), (s.cut ∙ ap (λ m. m / 64) (sym c.fill_at.ensures.len), (k.0, (k.1, tt))))
 
 pub returns-in-Cut : goal.returns-in-Cut
 returns-in-Cut c =
@@ -67,8 +67,8 @@ returns-in-Fill c =
     record {
       blobs =
           settled_fill s i c.args.how m c.requires is c.change-in-Fill.new.self c.change-in-Fill.ensures.count c.in-Fill.value
-          (vec_items c.fill-at.new.memory)
-          (c.fill-at.ensures.items ∙ ap (λ (x : Row). written (vec_items s.memory) (x.place * s.each + m) (replicate (x.len - m) c.in-Fill.value)) e)
+          (vec_items c.fill_at.new.memory)
+          (c.fill_at.ensures.items ∙ ap (λ (x : Row). written (vec_items s.memory) (x.place * s.each + m) (replicate (x.len - m) c.in-Fill.value)) e)
           c.in-Fill.is
           rows;
       same =
@@ -80,6 +80,6 @@ returns-in-Fill c =
             saved = refl;
           };
       memory =
-          outside_part s _ i (r.place * s.each + m) bs c.requires c.fill-at.ensures.items c.fill-at.ensures.len (omega arith) (omega (arith, c.row-row.ensures.len_within))
+          outside_part s _ i (r.place * s.each + m) bs c.requires c.fill_at.ensures.items c.fill_at.ensures.len (omega arith) (omega (arith, c.row-row.ensures.len_within))
           (omega (arith, c.row-row.ensures.part_within)) _ refl;
     }

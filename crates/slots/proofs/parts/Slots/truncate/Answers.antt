@@ -10,8 +10,8 @@ use Rattle.slots.specs.Lookup.{stands}
 use Rattle.slots.proofs.Change.{kept_changed, kept_same, room_cut, same_found, cut_blob}
 use Rattle.slots.proofs.parts.Slots.truncate.Goals as goal
 
-pub invariant-of-self : goal.invariant-of-self
-invariant-of-self c =
+pub invariant_of-self : goal.invariant_of-self
+invariant_of-self c =
     let s = c.args.self.now in
     let k = kept_same s c.stop.new.self.table (same_refl s.catalog.table c.stop.new.self.table c.stop.ensures.table) in
     (s.cut, (k.0, (k.1, tt)))
@@ -22,8 +22,8 @@ returns-then-not-self c =
     let h = c.stop.ensures.called (Truncate c.args.b c.args.n) (content_of s) (room_in s.each) (stands s) in
     record { wrote = h.0; counts = h.1; memory = refl }
 
-pub invariant-of-self-4 : goal.invariant-of-self-4
-invariant-of-self-4 c =
+pub invariant_of-self-4 : goal.invariant_of-self-4
+invariant_of-self-4 c =
     let s = c.args.self.now in
     let i = c.in-Some.i in
     let h = c.in-Some.ensures in

@@ -3,4 +3,4 @@ use Rattle.slots.specs.Lookup.{stands}
 use Rattle.slots.proofs.stores.SlotsStore.at_or_above.Goals as goal
 
 pub returns : goal.returns
-returns c = let s = c.args.self.now in c.at-or-above.ensures (content_of s) (room_in s.each) (stands s)
+returns c = let s = c.args.self.now in c.at_or_above.ensures (content_of s) (room_in s.each) (stands s)

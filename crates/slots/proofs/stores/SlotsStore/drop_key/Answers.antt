@@ -5,14 +5,14 @@ use Rattle.slots.specs.Lookup.{stands}
 use Rattle.slots.proofs.Change.{kept_same}
 use Rattle.slots.proofs.stores.SlotsStore.drop_key.Goals as goal
 
-pub invariant-of-self : goal.invariant-of-self
-invariant-of-self c =
+pub invariant_of-self : goal.invariant_of-self
+invariant_of-self c =
     let s = c.args.self.now in
-    let k = kept_same s c.drop-key.new.self.table (same_refl s.catalog.table c.drop-key.new.self.table c.drop-key.ensures.table) in
+    let k = kept_same s c.drop_key.new.self.table (same_refl s.catalog.table c.drop_key.new.self.table c.drop_key.ensures.table) in
     (s.cut, (k.0, (k.1, tt)))
 
 pub returns : goal.returns
 returns c =
     let s = c.args.self.now in
-    let h = c.drop-key.ensures.called (content_of s) (room_in s.each) (stands s) in
+    let h = c.drop_key.ensures.called (content_of s) (room_in s.each) (stands s) in
     record { wrote = h.0; counts = h.1; memory = refl }

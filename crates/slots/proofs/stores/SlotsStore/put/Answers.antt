@@ -5,8 +5,8 @@ use Rattle.slots.specs.Lookup.{stands}
 use Rattle.slots.proofs.Change.{kept_same}
 use Rattle.slots.proofs.stores.SlotsStore.put.Goals as goal
 
-pub invariant-of-self : goal.invariant-of-self
-invariant-of-self c =
+pub invariant_of-self : goal.invariant_of-self
+invariant_of-self c =
     let s = c.args.self.now in
     let k = kept_same s c.put.new.self.table (same_refl s.catalog.table c.put.new.self.table c.put.ensures.table) in
     (s.cut, (k.0, (k.1, tt)))

@@ -4,8 +4,8 @@ use Rattle.slots.specs.Lookup.{stands}
 use Rattle.slots.proofs.Change.{kept_same}
 use Rattle.slots.proofs.stores.SlotsStore.sync.Goals as goal
 
-pub invariant-of-self : goal.invariant-of-self
-invariant-of-self c =
+pub invariant_of-self : goal.invariant_of-self
+invariant_of-self c =
     let s = c.args.self.now in
     let k = kept_same s c.sync.new.self.table c.sync.ensures.rows in
     (s.cut, (k.0, (k.1, tt)))

@@ -5,14 +5,14 @@ use Rattle.slots.specs.Lookup.{stands}
 use Rattle.slots.proofs.Change.{kept_same}
 use Rattle.slots.proofs.stores.SlotsStore.sync_keys.Goals as goal
 
-pub invariant-of-self : goal.invariant-of-self
-invariant-of-self c =
+pub invariant_of-self : goal.invariant_of-self
+invariant_of-self c =
     let s = c.args.self.now in
-    let k = kept_same s c.sync-keys.new.self.table (same_refl s.catalog.table c.sync-keys.new.self.table c.sync-keys.ensures.table) in
+    let k = kept_same s c.sync_keys.new.self.table (same_refl s.catalog.table c.sync_keys.new.self.table c.sync_keys.ensures.table) in
     (s.cut, (k.0, (k.1, tt)))
 
 pub returns : goal.returns
 returns c =
     let s = c.args.self.now in
-    let h = c.sync-keys.ensures.called (content_of s) (room_in s.each) (stands s) in
+    let h = c.sync_keys.ensures.called (content_of s) (room_in s.each) (stands s) in
     record { wrote = h.0; counts = h.1; memory = refl }
