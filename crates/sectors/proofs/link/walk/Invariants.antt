@@ -3,4 +3,4 @@ use Rattle.sectors.specs.Sectors.{next_of, after}
 use Rattle.sectors.proofs.link.walk.Given as goal
 
 abbrev pub invariant-loop-i : goal.invariant-loop-i
-invariant-loop-i l = l.s ≡ after l.-i (next_of l.memory) l.first
+invariant-loop-i l = l.s ≡ after l._i (next_of l.memory) l.first

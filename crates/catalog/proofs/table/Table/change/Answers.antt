@@ -15,7 +15,11 @@ invariant_of-self c =
     let now = take_set_in n rs i r c.requires.within in
     let g = get_or-take n rs i none c.requires.within in
     let ns : numbers_of (take n (set rs i r)) ≡ numbers_of (take n rs) =
-    ap numbers_of now ∙ map_same (λ (x : Row). x.number) (take n rs) i r (c.requires.same ∙ sym (ap (λ (x : Row). x.number) g)) in (
-      length-set rs i r ∙ t.long,
-      (t.few, (rw ns t.rising, (rw ns t.fit, (rw now (each_set Ordered (take n rs) i r c.requires.ordered t.ordered), tt)))),
-    )
+    ap numbers_of now ∙ map_same (λ (x : Row). x.number) (take n rs) i r (c.requires.same ∙ sym (ap (λ (x : Row). x.number) g)) in
+    record {
+      long = length-set rs i r ∙ t.long;
+      few = t.few;
+      rising = rw ns t.rising;
+      fit = rw ns t.fit;
+      ordered = rw now (each_set Ordered (take n rs) i r c.requires.ordered t.ordered);
+    }

@@ -10,7 +10,7 @@ invariant_of-self c =
     let t = c.args.self.now in
     let e = inserted_rows t.rows t.count c.args.i (fresh_row c.args.b c.args.place) c.shift_in.new.rows c.requires.within (omega arith) c.shift_in.ensures in
     let k = subst (λ (rs : List Row). Kept rs (t.count + 1)) (sym e) (kept_inserted t c.args.i c.args.b c.args.place c.requires.few c.requires.within (omega arith) c.requires.sought c.requires.fresh) in
-    (k.long, (k.few, (k.rising, (k.fit, (k.ordered, tt)))))
+    record { long = k.long; few = k.few; rising = k.rising; fit = k.fit; ordered = k.ordered }
 
 pub returns : goal.returns
 returns c =

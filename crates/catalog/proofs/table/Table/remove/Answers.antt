@@ -10,7 +10,7 @@ invariant_of-self c =
     let t = c.args.self.now in
     let e = removed_rows t.rows t.count c.args.i none c.rotate_left.new.self (omega arith) (omega arith) c.rotate_left.ensures.after in
     let k = subst (λ (rs : List Row). Kept rs (t.count - 1)) (sym e) (kept_removed t c.args.i (omega arith)) in
-    (k.long, (k.few, (k.rising, (k.fit, (k.ordered, tt)))))
+    record { long = k.long; few = k.few; rising = k.rising; fit = k.fit; ordered = k.ordered }
 
 pub returns : goal.returns
 returns c =

@@ -46,7 +46,8 @@ invariant_of-self-4 c =
     let b = grows s c.args.b c.in-Some.i c.args.bytes.now (vec_items new) c.change.new.self x.result x.new.free c.placed_row.result
     c.in-Some.ensures (omega (arith, s.memory.ok, new.ok, x.ensures.long)) x.ensures.moved x.ensures.count x.ensures.bytes
     (c.placed_row.ensures ∙ ap (λ (y : Row). placed_row y x.result) c.grown.ensures) c.change.ensures.rows c.change.ensures.count in
-    (s.cut ∙ ap (λ m. usable (m / 64)) (sym x.ensures.long), owed s.sectors (vec_items new) (live c.change.new.self) x.new.free b.chains)
+    let o = owed s.sectors (vec_items new) (live c.change.new.self) x.new.free b.chains in
+    record { cut = s.cut ∙ ap (λ m. usable (m / 64)) (sym x.ensures.long); ends = o.0; rest = o.1.0; covers = o.1.1.0; counts = o.1.1.1.0 }
 
 pub returns : goal.returns
 returns c =

@@ -22,12 +22,12 @@ invariant_of-self-4 c =
     let x = c.shorten-self in
     let new = x.new.memory in
     let h = c.in-Some.ensures in
-    let u = c.remove.new.self in (
-      s.cut ∙ ap (λ m. usable (m / 64)) (sym x.ensures.long),
-      owed s.sectors (vec_items new) (live u) x.new.free
-          (chained_removed s.sectors (vec_items s.memory) s.catalog.table s.free (chained s) u c.in-Some.i h.within (vec_items new) x.result x.new.free
-          (omega (arith, s.memory.ok, new.ok, x.ensures.long)) x.ensures.moved _ x.ensures.count c.remove.ensures.count c.remove.ensures.rows),
-    )
+    let u = c.remove.new.self in
+    let o =
+    owed s.sectors (vec_items new) (live u) x.new.free
+    (chained_removed s.sectors (vec_items s.memory) s.catalog.table s.free (chained s) u c.in-Some.i h.within (vec_items new) x.result x.new.free
+    (omega (arith, s.memory.ok, new.ok, x.ensures.long)) x.ensures.moved _ x.ensures.count c.remove.ensures.count c.remove.ensures.rows) in
+    record { cut = s.cut ∙ ap (λ m. usable (m / 64)) (sym x.ensures.long); ends = o.0; rest = o.1.0; covers = o.1.1.0; counts = o.1.1.1.0 }
 
 pub returns : goal.returns
 returns c =

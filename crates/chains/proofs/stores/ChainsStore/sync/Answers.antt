@@ -11,7 +11,8 @@ invariant_of-self c =
     let s = c.args.self.now in
     let mem = vec_items s.memory in
     let u = c.sync.new.self.table in
-    (s.cut, owed s.sectors mem (live u) s.free (chained_same s.sectors mem s.catalog.table s.free (chained s) u c.sync.ensures.rows))
+    let o = owed s.sectors mem (live u) s.free (chained_same s.sectors mem s.catalog.table s.free (chained s) u c.sync.ensures.rows) in
+    record { cut = s.cut; ends = o.0; rest = o.1.0; covers = o.1.1.0; counts = o.1.1.1.0 }
 
 pub returns : goal.returns
 returns c =

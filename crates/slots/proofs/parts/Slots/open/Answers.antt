@@ -11,7 +11,7 @@ pub invariant_of-self : goal.invariant_of-self
 invariant_of-self c =
     let s = c.args.self.now in
     let k = kept_same s c.stop.new.self.table (same_refl s.catalog.table c.stop.new.self.table c.stop.ensures.table) in
-    (s.cut, (k.0, (k.1, tt)))
+    record { cut = s.cut; within = k.0; parts = k.1 }
 
 pub returns-then-not-self : goal.returns-then-not-self
 returns-then-not-self c =

@@ -14,7 +14,7 @@ pub invariant_of-self : goal.invariant_of-self
 invariant_of-self c =
     let s = c.args.self.now in
     let k = kept_same s c.stop.new.self.table (same_refl s.catalog.table c.stop.new.self.table c.stop.ensures.table) in
-    (s.cut, (k.0, (k.1, tt)))
+    record { cut = s.cut; within = k.0; parts = k.1 }
 
 pub returns-then-not-self : goal.returns-then-not-self
 returns-then-not-self c =
@@ -25,13 +25,12 @@ returns-then-not-self c =
 pub invariant_of-self-4 : goal.invariant_of-self-4
 invariant_of-self-4 c =
     let s = c.args.self.now in
-    let h = c.in-Some.ensures in (
-      s.cut,
-      (
-        each_gone s.catalog.table c.in-Some.i c.remove.new.self _ c.remove.ensures.count c.remove.ensures.rows h.within (λ (x : Row). x.len ≤ s.each) s.within,
-        (parts_removed s.catalog.table c.in-Some.i c.remove.new.self.rows h.within s.parts c.remove.ensures.rows, tt),
-      ),
-    )
+    let h = c.in-Some.ensures in
+    record {
+      cut = s.cut;
+      within = each_gone s.catalog.table c.in-Some.i c.remove.new.self _ c.remove.ensures.count c.remove.ensures.rows h.within (λ (x : Row). x.len ≤ s.each) s.within;
+      parts = parts_removed s.catalog.table c.in-Some.i c.remove.new.self.rows h.within s.parts c.remove.ensures.rows;
+    }
 
 pub returns : goal.returns
 returns c =

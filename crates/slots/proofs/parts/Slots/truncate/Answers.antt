@@ -14,7 +14,7 @@ pub invariant_of-self : goal.invariant_of-self
 invariant_of-self c =
     let s = c.args.self.now in
     let k = kept_same s c.stop.new.self.table (same_refl s.catalog.table c.stop.new.self.table c.stop.ensures.table) in
-    (s.cut, (k.0, (k.1, tt)))
+    record { cut = s.cut; within = k.0; parts = k.1 }
 
 pub returns-then-not-self : goal.returns-then-not-self
 returns-then-not-self c =
@@ -29,7 +29,7 @@ invariant_of-self-4 c =
     let h = c.in-Some.ensures in
     let rows = c.change.ensures.rows ∙ ap (set s.catalog.table.rows i) c.cut.ensures in
     let k = kept_changed s i (cut_row c.args.n (row_at s i)) c.change.new.self rows c.change.ensures.count h.within (omega (arith, h.held.len_within)) refl in
-    (s.cut, (k.0, (k.1, tt)))
+    record { cut = s.cut; within = k.0; parts = k.1 }
 
 pub returns : goal.returns
 returns c =

@@ -8,7 +8,7 @@ pub invariant_of-self : goal.invariant_of-self
 invariant_of-self c =
     let s = c.args.self.now in
     let k = kept_same s c.sync.new.self.table c.sync.ensures.rows in
-    (s.cut, (k.0, (k.1, tt)))
+    record { cut = s.cut; within = k.0; parts = k.1 }
 
 pub returns : goal.returns
 returns c =
