@@ -4,7 +4,7 @@ use Rattle.std.proofs.lemmas.Bool.{lt-ltb, le-ltb, le-leb, lt-leb, eq-eqb, ne_eq
 use Rattle.store.specs.Disk.{Blob, Blobs, View, numbers, at_or_above, change, without}
 use Rattle.store.specs.Laws.{Lawful}
 use Rattle.store.proofs.Places.{above_none}
-use Rattle.store.proofs.Places.{length_numbers as count-numbers}
+use Rattle.store.proofs.Places.{length_numbers as count_numbers}
 use Rattle.rules.specs.Rules.{MAX}
 use Rattle.rules.specs.Calls.{from, has}
 use Rattle.journal.proofs.Taken.{impossible}
@@ -71,7 +71,7 @@ numbers_change f b (x ∷ xs) = elim (cases_Bool (eqb x.0 b)) [ inl t ↦ simp t
 
 pub from_past : (v : View) (b : ℕ) → Lawful v → b ≡ MAX → from (b + 1) (numbers v.disk.blobs) ≡ []
 from_past v b laws h =
-    let n = count-numbers v.disk.blobs in
+    let n = count_numbers v.disk.blobs in
     from_none (b + 1) v.disk.blobs (above_none (b + 1) v.disk.blobs (λ k l. let q = laws.fits k (omega arith) in omega arith))
 
 -- whether a number is listed

@@ -15,7 +15,7 @@ use record::record::Record;
 use store::store::Store;
 
 fn has_blob<S: Store>(store: &S, b: u64) -> Result<bool, StoreFault>
-    ensures { Finds (has b (numbers (view store.now).disk.blobs)) (view store.now) result }
+    ensures { Finds (has b (numbers (S.view store.now).disk.blobs)) (S.view store.now) result }
 {
     let Some(found) = steps::at_or_above(store, b)? else {
         return Ok(false);
@@ -25,7 +25,7 @@ fn has_blob<S: Store>(store: &S, b: u64) -> Result<bool, StoreFault>
 
 // A missing blob is made.
 fn ensure_blob<S: Store>(store: &mut S, b: u64) -> Result<(), StoreFault>
-    ensures { Asks (open_if (has b (numbers (view store.old).disk.blobs)) b) (view store.old) result (view store.new) }
+    ensures { Asks (open_if (has b (numbers (S.view store.old).disk.blobs)) b) (S.view store.old) result (S.view store.new) }
 {
     if has_blob(store, b)? {
         return Ok(());
@@ -36,7 +36,7 @@ fn ensure_blob<S: Store>(store: &mut S, b: u64) -> Result<(), StoreFault>
 // A blob that is full is synced.
 fn seal<S: Store>(store: &mut S, config: Config, end: u64, b: u64) -> Result<(), StoreFault>
     requires { end < MAX }
-    ensures { TookAll (if aligned (ruled config) (end + 1) then Sync b ∷ [] else []) (view store.old) result (view store.new) }
+    ensures { TookAll (if aligned (ruled config) (end + 1) then Sync b ∷ [] else []) (S.view store.old) result (S.view store.new) }
 {
     if (end + 1) % config.records != 0 {
         return Ok(());
@@ -51,7 +51,7 @@ fn add_bytes<S: Store>(
     bytes: &[u8],
 ) -> Result<(), StoreFault>
     requires { end < MAX }
-    ensures { TookAll (adding (ruled config) end bytes.now) (view store.old) result (view store.new) }
+    ensures { TookAll (adding (ruled config) end bytes.now) (S.view store.old) result (S.view store.new) }
 {
     let b = position_to_blob(config, end);
     steps::append(store, b, bytes)?;
@@ -65,7 +65,7 @@ fn write_bytes<S: Store>(
     bytes: &[u8],
 ) -> Result<(), StoreFault>
     requires { end < MAX }
-    ensures { Asks (open_if (has (blob_of (ruled config) end) (numbers (view store.old).disk.blobs)) (blob_of (ruled config) end) ++ adding (ruled config) end bytes.now) (view store.old) result (view store.new) }
+    ensures { Asks (open_if (has (blob_of (ruled config) end) (numbers (S.view store.old).disk.blobs)) (blob_of (ruled config) end) ++ adding (ruled config) end bytes.now) (S.view store.old) result (S.view store.new) }
 {
     ensure_blob(store, position_to_blob(config, end))?;
     add_bytes(store, config, end, bytes)
@@ -80,7 +80,7 @@ fn write_through<S: Store, K: Record>(
     bytes: &mut [u8],
 ) -> Result<(), StoreFault>
     requires { (end < MAX) × (length bytes.old ≡ config.size) }
-    ensures { K.Record.size ≡ config.size → Asks (open_if (has (blob_of (ruled config) end) (numbers (view store.old).disk.blobs)) (blob_of (ruled config) end) ++ adding (ruled config) end (encode item)) (view store.old) result (view store.new) }
+    ensures { K.Record.size ≡ config.size → Asks (open_if (has (blob_of (ruled config) end) (numbers (S.view store.old).disk.blobs)) (blob_of (ruled config) end) ++ adding (ruled config) end (K.encode item)) (S.view store.old) result (S.view store.new) }
 {
     let _ = item.write(bytes);
     write_bytes(store, config, end, bytes)
@@ -93,7 +93,7 @@ pub fn write_record<S: Store, K: Record>(
     item: K,
 ) -> Result<(), StoreFault>
     requires { end < MAX }
-    ensures { K.Record.size ≡ config.size → Asks (open_if (has (blob_of (ruled config) end) (numbers (view store.old).disk.blobs)) (blob_of (ruled config) end) ++ adding (ruled config) end (encode item)) (view store.old) result (view store.new) }
+    ensures { K.Record.size ≡ config.size → Asks (open_if (has (blob_of (ruled config) end) (numbers (S.view store.old).disk.blobs)) (blob_of (ruled config) end) ++ adding (ruled config) end (K.encode item)) (S.view store.old) result (S.view store.new) }
 {
     let mut buffer = [0u8; 4096];
     write_through(

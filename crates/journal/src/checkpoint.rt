@@ -15,7 +15,7 @@ use store::store::Store;
 
 // A boundary at a blob's first position needs no hint.
 fn note_boundary<S: Store>(store: &mut S, config: Config, boundary: u64) -> Result<(), StoreFault>
-    ensures { Took (if aligned (ruled config) boundary then DropKey Hint else Put Hint boundary) (view store.old) result (view store.new) }
+    ensures { Took (if aligned (ruled config) boundary then DropKey Hint else Put Hint boundary) (S.view store.old) result (S.view store.new) }
 {
     if boundary % config.records == 0 {
         steps::drop_key(store, Key::Hint)
@@ -31,7 +31,7 @@ pub(crate) fn persist<S: Store>(
     boundary: u64,
     watermark: u64,
 ) -> Result<(), StoreFault>
-    ensures { TookAll (persisting (ruled config) boundary watermark) (view store.old) result (view store.new) }
+    ensures { TookAll (persisting (ruled config) boundary watermark) (S.view store.old) result (S.view store.new) }
 {
     note_boundary(store, config, boundary)?;
     steps::put(store, Key::Watermark, watermark)?;
@@ -40,7 +40,7 @@ pub(crate) fn persist<S: Store>(
 
 // Lowers the watermark to a limit if it is above.
 fn lower_watermark<S: Store>(store: &mut S, limit: u64) -> Result<(), StoreFault>
-    ensures { Asks (if is_above (view store.old).disk.present.watermark limit then Put Watermark limit ∷ [] else []) (view store.old) result (view store.new) }
+    ensures { Asks (if is_above (S.view store.old).disk.present.watermark limit then Put Watermark limit ∷ [] else []) (S.view store.old) result (S.view store.new) }
 {
     match steps::look(store, Key::Watermark)? {
         Some(mark) if mark > limit => steps::put(store, Key::Watermark, limit),
@@ -49,7 +49,7 @@ fn lower_watermark<S: Store>(store: &mut S, limit: u64) -> Result<(), StoreFault
 }
 
 fn intend<S: Store>(store: &mut S, target: u64) -> Result<(), StoreFault>
-    ensures { TookAll (Put Target target ∷ (SyncKeys ∷ [])) (view store.old) result (view store.new) }
+    ensures { TookAll (Put Target target ∷ (SyncKeys ∷ [])) (S.view store.old) result (S.view store.new) }
 {
     steps::put(store, Key::Target, target)?;
     steps::sync_keys(store)
@@ -57,7 +57,7 @@ fn intend<S: Store>(store: &mut S, target: u64) -> Result<(), StoreFault>
 
 // Records the intent to clear to a target.
 pub(crate) fn stage_clear<S: Store>(store: &mut S, target: u64) -> Result<(), StoreFault>
-    ensures { Asks (staging (view store.old).disk.present target) (view store.old) result (view store.new) }
+    ensures { Asks (staging (S.view store.old).disk.present target) (S.view store.old) result (S.view store.new) }
 {
     lower_watermark(store, target)?;
     intend(store, target)
@@ -69,7 +69,7 @@ pub(crate) fn finish_clear<S: Store>(
     config: Config,
     target: u64,
 ) -> Result<(), StoreFault>
-    ensures { TookAll (DropKey Target ∷ persisting (ruled config) target target) (view store.old) result (view store.new) }
+    ensures { TookAll (DropKey Target ∷ persisting (ruled config) target target) (S.view store.old) result (S.view store.new) }
 {
     steps::drop_key(store, Key::Target)?;
     persist(store, config, target, target)

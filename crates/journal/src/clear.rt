@@ -14,7 +14,7 @@ use store::store::Store;
 
 // Removes the blobs, lowest first.
 fn remove_all<S: Store>(store: &mut S) -> Result<(), StoreFault>
-    ensures { Asks (map Remove (numbers (view store.old).disk.blobs)) (view store.old) result (view store.new) }
+    ensures { Asks (map Remove (numbers (S.view store.old).disk.blobs)) (S.view store.old) result (S.view store.new) }
 {
     'blobs: loop {
         let Some(b) = steps::at_or_above(store, 0)? else {
@@ -25,7 +25,7 @@ fn remove_all<S: Store>(store: &mut S) -> Result<(), StoreFault>
 }
 
 fn begin_at<S: Store>(store: &mut S, config: Config, target: u64) -> Result<(), StoreFault>
-    ensures { TookAll (Open (blob_of (ruled config) target) ∷ (DropKey Target ∷ persisting (ruled config) target target)) (view store.old) result (view store.new) }
+    ensures { TookAll (Open (blob_of (ruled config) target) ∷ (DropKey Target ∷ persisting (ruled config) target target)) (S.view store.old) result (S.view store.new) }
 {
     steps::open(store, target / config.records)?;
     checkpoint::finish_clear(store, config, target)
@@ -36,7 +36,7 @@ pub(crate) fn complete_clear<S: Store>(
     config: Config,
     target: u64,
 ) -> Result<(), StoreFault>
-    ensures { Asks (clearing (ruled config) target (numbers (view store.old).disk.blobs)) (view store.old) result (view store.new) }
+    ensures { Asks (clearing (ruled config) target (numbers (S.view store.old).disk.blobs)) (S.view store.old) result (S.view store.new) }
 {
     remove_all(store)?;
     begin_at(store, config, target)

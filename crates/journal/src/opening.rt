@@ -11,7 +11,7 @@ use store::store::Store;
 impl<S: Store, K: Record> Opened<S, K> {
     // A refusal hands the store back, with what was repaired of it.
     pub fn open(mut store: S, config: Config, ceiling: Option<u64>) -> Result<Opened<S, K>, Lost<S>>
-        ensures { Opens view config ceiling (view store) result }
+        ensures { Opens S.view config ceiling (S.view store) result }
     {
         match recover_all(&mut store, config, ceiling) {
             Ok(held) => Ok(Opened {

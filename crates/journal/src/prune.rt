@@ -11,7 +11,7 @@ use store::store::Store;
 
 // Removes the blobs below b, lowest first.
 fn remove_below<S: Store>(store: &mut S, b: u64) -> Result<(), StoreFault>
-    ensures { Asks (map Remove (up_to b (numbers (view store.old).disk.blobs))) (view store.old) result (view store.new) }
+    ensures { Asks (map Remove (up_to b (numbers (S.view store.old).disk.blobs))) (S.view store.old) result (S.view store.new) }
 {
     'blobs: loop {
         let Some(found) = steps::at_or_above(store, 0)? else {
@@ -25,14 +25,14 @@ fn remove_below<S: Store>(store: &mut S, b: u64) -> Result<(), StoreFault>
 }
 
 fn sync_and_remove<S: Store>(store: &mut S, b: u64) -> Result<(), StoreFault>
-    ensures { Asks (map Sync (numbers (view store.old).disk.blobs) ++ map Remove (up_to b (numbers (view store.old).disk.blobs))) (view store.old) result (view store.new) }
+    ensures { Asks (map Sync (numbers (S.view store.old).disk.blobs) ++ map Remove (up_to b (numbers (S.view store.old).disk.blobs))) (S.view store.old) result (S.view store.new) }
 {
     sync_all(store)?;
     remove_below(store, b)
 }
 
 pub fn prune_to<S: Store>(store: &mut S, b: u64) -> Result<(), StoreFault>
-    ensures { TookAll (Open b ∷ (map Sync (numbers (insert b (view store.old).disk.blobs)) ++ map Remove (up_to b (numbers (view store.old).disk.blobs)))) (view store.old) result (view store.new) }
+    ensures { TookAll (Open b ∷ (map Sync (numbers (insert b (S.view store.old).disk.blobs)) ++ map Remove (up_to b (numbers (S.view store.old).disk.blobs)))) (S.view store.old) result (S.view store.new) }
 {
     steps::open(store, b)?;
     sync_and_remove(store, b)

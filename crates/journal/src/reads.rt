@@ -22,7 +22,7 @@ fn fetch<S: Store, K: Record>(
     bytes: &mut [u8],
 ) -> Result<K, Fault>
     requires { length bytes.old ≡ config.size }
-    ensures { ReadOne (reading decode (ruled config) start (view store.now) (position ∷ [])) result }
+    ensures { ReadOne (reading K.decode (ruled config) start (S.view store.now) (position ∷ [])) result }
 {
     let at = offset_of(config, start, position);
     steps::read(store, position_to_blob(config, position), at, bytes)?;
@@ -38,7 +38,7 @@ fn read_record<S: Store, K: Record>(
     start: u64,
     position: u64,
 ) -> Result<K, Fault>
-    ensures { ReadOne (reading decode (ruled config) start (view store.now) (position ∷ [])) result }
+    ensures { ReadOne (reading K.decode (ruled config) start (S.view store.now) (position ∷ [])) result }
 {
     let mut buffer = [0u8; 4096];
     fetch(
@@ -57,7 +57,7 @@ fn read_one<S: Store, K: Record>(
     held: Held,
     position: u64,
 ) -> Result<K, Fault>
-    ensures { ReadOne (rule_of_read decode (ruled config) held.start held.end (view store.now) position) result }
+    ensures { ReadOne (rule_of_read K.decode (ruled config) held.start held.end (S.view store.now) position) result }
 {
     if position >= held.end {
         return Err(Fault::ItemOutOfRange(position));
@@ -70,7 +70,7 @@ fn read_one<S: Store, K: Record>(
 
 impl<S: Store, K: Record> Opened<S, K> {
     pub fn read(&self, position: u64) -> Result<K, Fault>
-        ensures { ReadOne (rule_of_read decode (ruled self.now.config) self.now.held.start self.now.held.end (view self.now.store) position) result }
+        ensures { ReadOne (rule_of_read K.decode (ruled self.now.config) self.now.held.start self.now.held.end (S.view self.now.store) position) result }
     {
         read_one(&self.store, self.config, self.held, position)
     }
@@ -78,7 +78,7 @@ impl<S: Store, K: Record> Opened<S, K> {
 
 impl<S: Store, K: Record> Trimmed<S, K> {
     pub fn read(&self, position: u64) -> Result<K, Fault>
-        ensures { ReadOne (rule_of_read decode (ruled self.now.config) self.now.held.start self.now.held.end (view self.now.store) position) result }
+        ensures { ReadOne (rule_of_read K.decode (ruled self.now.config) self.now.held.start self.now.held.end (S.view self.now.store) position) result }
     {
         read_one(&self.store, self.config, self.held, position)
     }

@@ -19,8 +19,8 @@ use store::keys::Key;
 use store::store::Store;
 
 fn find_start<S: Store>(store: &S, config: Config) -> Result<u64, Fault>
-    requires { (view store.now).up ≡ true }
-    ensures { Starts (ruled config) (view store.now).disk.present.hint (lowest (view store.now).disk.blobs) result }
+    requires { (S.view store.now).up ≡ true }
+    ensures { Starts (ruled config) (S.view store.now).disk.present.hint (lowest (S.view store.now).disk.blobs) result }
 {
     let hint = steps::look(store, Key::Hint)?;
     let first = steps::at_or_above(store, 0)?;
@@ -29,8 +29,8 @@ fn find_start<S: Store>(store: &S, config: Config) -> Result<u64, Fault>
 
 // The ceiling may not be below the start, and each blob's first position is a number.
 fn admit<S: Store>(store: &S, scope: Scope) -> Result<(), Fault>
-    requires { (view store.now).up ≡ true }
-    ensures { Admits (ruled scope.config) scope.start scope.ceiling (view store.now).disk.blobs result }
+    requires { (S.view store.now).up ≡ true }
+    ensures { Admits (ruled scope.config) scope.start scope.ceiling (S.view store.now).disk.blobs result }
 {
     let top = or_max(scope.ceiling);
     if top < scope.start {
@@ -55,8 +55,8 @@ fn floor_of(mark: Option<u64>, ceiling: Option<u64>) -> u64
 }
 
 fn measure<S: Store>(store: &S, scope: Scope, mark: Option<u64>) -> Result<Held, Fault>
-    requires { (view store.now).up ≡ true }
-    ensures { Settles (weighing (ruled scope.config) scope.start scope.ceiling (edge_at (ruled scope.config) scope.start scope.ceiling) mark (walk_all (ruled scope.config) scope.start (below (edge_at (ruled scope.config) scope.start scope.ceiling) (view store.now).disk.blobs))) result }
+    requires { (S.view store.now).up ≡ true }
+    ensures { Settles (weighing (ruled scope.config) scope.start scope.ceiling (edge_at (ruled scope.config) scope.start scope.ceiling) mark (walk_all (ruled scope.config) scope.start (below (edge_at (ruled scope.config) scope.start scope.ceiling) (S.view store.now).disk.blobs))) result }
 {
     let edge = edge_at(scope.config, scope.start, scope.ceiling);
     let walked = recover_by_walking_lengths(store, scope.config, scope.start, edge)?;
@@ -65,8 +65,8 @@ fn measure<S: Store>(store: &S, scope: Scope, mark: Option<u64>) -> Result<Held,
 
 // The suspects are examined, and then the lengths are walked.
 fn recover_span<S: Store>(store: &mut S, scope: Scope) -> Result<Held, Fault>
-    requires { (view store.old).up ≡ true }
-    ensures { Recovers (spanned (ruled scope.config) scope.start scope.ceiling (view store.old).disk) (view store.old) result (view store.new) }
+    requires { (S.view store.old).up ≡ true }
+    ensures { Recovers (spanned (ruled scope.config) scope.start scope.ceiling (S.view store.old).disk) (S.view store.old) result (S.view store.new) }
 {
     let mark = steps::look(store, Key::Watermark)?;
     let edge = edge_at(scope.config, scope.start, scope.ceiling);
@@ -75,8 +75,8 @@ fn recover_span<S: Store>(store: &mut S, scope: Scope) -> Result<Held, Fault>
 }
 
 fn recover_from<S: Store>(store: &mut S, scope: Scope) -> Result<Held, Fault>
-    requires { (view store.old).up ≡ true }
-    ensures { Recovers (admitted (ruled scope.config) scope.start scope.ceiling (view store.old).disk.blobs (spanned (ruled scope.config) scope.start scope.ceiling (view store.old).disk)) (view store.old) result (view store.new) }
+    requires { (S.view store.old).up ≡ true }
+    ensures { Recovers (admitted (ruled scope.config) scope.start scope.ceiling (S.view store.old).disk.blobs (spanned (ruled scope.config) scope.start scope.ceiling (S.view store.old).disk)) (S.view store.old) result (S.view store.new) }
 {
     admit(store, scope)?;
     recover_span(store, scope)
@@ -87,8 +87,8 @@ fn recover_standing<S: Store>(
     config: Config,
     ceiling: Option<u64>,
 ) -> Result<Held, Fault>
-    requires { (view store.old).up ≡ true }
-    ensures { Recovers (standing (ruled config) ceiling (view store.old).disk) (view store.old) result (view store.new) }
+    requires { (S.view store.old).up ≡ true }
+    ensures { Recovers (standing (ruled config) ceiling (S.view store.old).disk) (S.view store.old) result (S.view store.new) }
 {
     let start = find_start(store, config)?;
     recover_from(
@@ -108,8 +108,8 @@ fn recover_cleared<S: Store>(
     ceiling: Option<u64>,
     target: u64,
 ) -> Result<Held, Fault>
-    requires { (view store.old).up ≡ true }
-    ensures { Recovers (cleared (ruled config) ceiling (view store.old).disk target) (view store.old) result (view store.new) }
+    requires { (S.view store.old).up ≡ true }
+    ensures { Recovers (cleared (ruled config) ceiling (S.view store.old).disk target) (S.view store.old) result (S.view store.new) }
 {
     complete_clear(store, config, target)?;
     let top = or_max(ceiling);
@@ -130,7 +130,7 @@ pub fn recover_all<S: Store>(
     config: Config,
     ceiling: Option<u64>,
 ) -> Result<Held, Fault>
-    ensures { Recovers (rule_of_open (ruled config) ceiling (view store.old).disk) (view store.old) result (view store.new) }
+    ensures { Recovers (rule_of_open (ruled config) ceiling (S.view store.old).disk) (S.view store.old) result (S.view store.new) }
 {
     match steps::look(store, Key::Target)? {
         Some(target) => recover_cleared(store, config, ceiling, target),

@@ -10,7 +10,7 @@ use store::keys::Key;
 use store::store::Store;
 
 pub fn put<S: Store>(store: &mut S, k: Key, v: u64) -> Result<(), StoreFault>
-    ensures { Took (Put k v) (view store.old) result (view store.new) }
+    ensures { Took (Put k v) (S.view store.old) result (S.view store.new) }
 {
     match store.put(k, v) {
         Ok(()) => Ok(()),
@@ -22,7 +22,7 @@ pub fn put<S: Store>(store: &mut S, k: Key, v: u64) -> Result<(), StoreFault>
 }
 
 pub fn drop_key<S: Store>(store: &mut S, k: Key) -> Result<(), StoreFault>
-    ensures { Took (DropKey k) (view store.old) result (view store.new) }
+    ensures { Took (DropKey k) (S.view store.old) result (S.view store.new) }
 {
     match store.drop_key(k) {
         Ok(()) => Ok(()),
@@ -34,7 +34,7 @@ pub fn drop_key<S: Store>(store: &mut S, k: Key) -> Result<(), StoreFault>
 }
 
 pub fn sync_keys<S: Store>(store: &mut S) -> Result<(), StoreFault>
-    ensures { Took SyncKeys (view store.old) result (view store.new) }
+    ensures { Took SyncKeys (S.view store.old) result (S.view store.new) }
 {
     match store.sync_keys() {
         Ok(()) => Ok(()),
@@ -46,7 +46,7 @@ pub fn sync_keys<S: Store>(store: &mut S) -> Result<(), StoreFault>
 }
 
 pub fn open<S: Store>(store: &mut S, b: u64) -> Result<(), StoreFault>
-    ensures { Took (Open b) (view store.old) result (view store.new) }
+    ensures { Took (Open b) (S.view store.old) result (S.view store.new) }
 {
     match store.open(b) {
         Ok(()) => Ok(()),
@@ -58,7 +58,7 @@ pub fn open<S: Store>(store: &mut S, b: u64) -> Result<(), StoreFault>
 }
 
 pub fn sync<S: Store>(store: &mut S, b: u64) -> Result<(), StoreFault>
-    ensures { Took (Sync b) (view store.old) result (view store.new) }
+    ensures { Took (Sync b) (S.view store.old) result (S.view store.new) }
 {
     match store.sync(b) {
         Ok(()) => Ok(()),
@@ -70,7 +70,7 @@ pub fn sync<S: Store>(store: &mut S, b: u64) -> Result<(), StoreFault>
 }
 
 pub fn remove<S: Store>(store: &mut S, b: u64) -> Result<(), StoreFault>
-    ensures { Took (Remove b) (view store.old) result (view store.new) }
+    ensures { Took (Remove b) (S.view store.old) result (S.view store.new) }
 {
     match store.remove(b) {
         Ok(()) => Ok(()),
@@ -82,7 +82,7 @@ pub fn remove<S: Store>(store: &mut S, b: u64) -> Result<(), StoreFault>
 }
 
 pub fn at_or_above<S: Store>(store: &S, b: u64) -> Result<Option<u64>, StoreFault>
-    ensures { Asked Listed (above_of (view store.now) b) result }
+    ensures { Asked Listed (above_of (S.view store.now) b) result }
 {
     match store.at_or_above(b) {
         Ok(found) => Ok(found),
@@ -94,7 +94,7 @@ pub fn at_or_above<S: Store>(store: &S, b: u64) -> Result<Option<u64>, StoreFaul
 }
 
 pub fn look<S: Store>(store: &S, k: Key) -> Result<Option<u64>, StoreFault>
-    ensures { Asked (Looked k) (key_of (view store.now) k) result }
+    ensures { Asked (Looked k) (key_of (S.view store.now) k) result }
 {
     match store.key(k) {
         Ok(found) => Ok(found),
@@ -107,7 +107,7 @@ pub fn look<S: Store>(store: &S, k: Key) -> Result<Option<u64>, StoreFault>
 
 // As many bytes as out has, from `at` on.
 pub fn read<S: Store>(store: &S, b: u64, at: u64, out: &mut [u8]) -> Result<(), StoreFault>
-    ensures { Read b (read_of (view store.now) b at (length out.old)) result out.new }
+    ensures { Read b (read_of (S.view store.now) b at (length out.old)) result out.new }
 {
     match store.read(b, at, out) {
         Ok(()) => Ok(()),
@@ -119,7 +119,7 @@ pub fn read<S: Store>(store: &S, b: u64, at: u64, out: &mut [u8]) -> Result<(), 
 }
 
 pub fn at_or_below<S: Store>(store: &S, b: u64) -> Result<Option<u64>, StoreFault>
-    ensures { Asked Listed (below_of (view store.now) b) result }
+    ensures { Asked Listed (below_of (S.view store.now) b) result }
 {
     match store.at_or_below(b) {
         Ok(found) => Ok(found),
@@ -131,7 +131,7 @@ pub fn at_or_below<S: Store>(store: &S, b: u64) -> Result<Option<u64>, StoreFaul
 }
 
 pub fn len<S: Store>(store: &S, b: u64) -> Result<u64, StoreFault>
-    ensures { Asked (Measured b) (length_of (view store.now) b) result }
+    ensures { Asked (Measured b) (length_of (S.view store.now) b) result }
 {
     match store.len(b) {
         Ok(n) => Ok(n),
@@ -143,7 +143,7 @@ pub fn len<S: Store>(store: &S, b: u64) -> Result<u64, StoreFault>
 }
 
 pub fn scan<S: Store>(store: &S, b: u64, limit: u64) -> Result<u64, StoreFault>
-    ensures { Asked (Scanned b) (scan_of (view store.now) b limit) result }
+    ensures { Asked (Scanned b) (scan_of (S.view store.now) b limit) result }
 {
     match store.scan(b, limit) {
         Ok(n) => Ok(n),
@@ -155,7 +155,7 @@ pub fn scan<S: Store>(store: &S, b: u64, limit: u64) -> Result<u64, StoreFault>
 }
 
 pub fn truncate<S: Store>(store: &mut S, b: u64, n: u64) -> Result<(), StoreFault>
-    ensures { Took (Truncate b n) (view store.old) result (view store.new) }
+    ensures { Took (Truncate b n) (S.view store.old) result (S.view store.new) }
 {
     match store.truncate(b, n) {
         Ok(()) => Ok(()),
@@ -167,7 +167,7 @@ pub fn truncate<S: Store>(store: &mut S, b: u64, n: u64) -> Result<(), StoreFaul
 }
 
 pub fn append<S: Store>(store: &mut S, b: u64, bytes: &[u8]) -> Result<(), StoreFault>
-    ensures { Took (Append b bytes.now) (view store.old) result (view store.new) }
+    ensures { Took (Append b bytes.now) (S.view store.old) result (S.view store.new) }
 {
     match store.append(b, bytes) {
         Ok(()) => Ok(()),

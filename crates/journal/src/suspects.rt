@@ -74,8 +74,8 @@ fn holds(scope: Scope, b: u64, scanned: u64, limit: u64) -> bool
 
 // Whether a blob passes, and how many of its bytes are whole records.
 fn inspect<S: Store>(store: &S, scope: Scope, b: u64) -> Result<(bool, u64), Fault>
-    requires { (view store.now).up ≡ true }
-    ensures { (x : Blob) → find (view store.now).disk.blobs b ≡ Some x → Gives (passes (ruled scope.config) scope.start scope.ceiling (b, x), valid_in (ruled scope.config) scope.start scope.ceiling (b, x)) result }
+    requires { (S.view store.now).up ≡ true }
+    ensures { (x : Blob) → find (S.view store.now).disk.blobs b ≡ Some x → Gives (passes (ruled scope.config) scope.start scope.ceiling (b, x), valid_in (ruled scope.config) scope.start scope.ceiling (b, x)) result }
 {
     let len = steps::len(store, b)?;
     let limit = limit_of(scope, b, len);
@@ -86,8 +86,8 @@ fn inspect<S: Store>(store: &S, scope: Scope, b: u64) -> Result<(bool, u64), Fau
 
 // A suspect is passed over, refused or cut.
 fn examine_suspect<S: Store>(store: &mut S, scope: Scope, floor: u64, b: u64) -> Result<(), Fault>
-    requires { (view store.old).up ≡ true }
-    ensures { (x : Blob) → find (view store.old).disk.blobs b ≡ Some x → Examined (ruled scope.config) scope.start scope.ceiling floor b x (view store.old) result (view store.new) }
+    requires { (S.view store.old).up ≡ true }
+    ensures { (x : Blob) → find (S.view store.old).disk.blobs b ≡ Some x → Examined (ruled scope.config) scope.start scope.ceiling floor b x (S.view store.old) result (S.view store.new) }
 {
     if b < position_to_blob(scope.config, floor) {
         return Ok(());
@@ -108,8 +108,8 @@ fn examine_suspect<S: Store>(store: &mut S, scope: Scope, floor: u64, b: u64) ->
 
 // The highest blob below an edge.
 pub fn highest_below<S: Store>(store: &S, edge: Option<u64>) -> Result<Option<u64>, Fault>
-    requires { (view store.now).up ≡ true }
-    ensures { Gives (highest (below (edge_of edge) (view store.now).disk.blobs)) result }
+    requires { (S.view store.now).up ≡ true }
+    ensures { Gives (highest (below (edge_of edge) (S.view store.now).disk.blobs)) result }
 {
     let top = match edge {
         None => u64::MAX,
@@ -130,8 +130,8 @@ pub fn examine_two<S: Store>(
     floor: u64,
     edge: Option<u64>,
 ) -> Result<(), Fault>
-    requires { (view store.old).up ≡ true }
-    ensures { ExaminedTwo (ruled scope.config) scope.start scope.ceiling floor (edge_of edge) (view store.old) result (view store.new) }
+    requires { (S.view store.old).up ≡ true }
+    ensures { ExaminedTwo (ruled scope.config) scope.start scope.ceiling floor (edge_of edge) (S.view store.old) result (S.view store.new) }
 {
     let Some(high) = highest_below(store, edge)? else {
         return Ok(());

@@ -20,7 +20,7 @@ use store::store::Store;
 
 // Syncs the blobs, lowest first.
 pub(crate) fn sync_all<S: Store>(store: &mut S) -> Result<(), StoreFault>
-    ensures { Asks (map Sync (numbers (view store.old).disk.blobs)) (view store.old) result (view store.new) }
+    ensures { Asks (map Sync (numbers (S.view store.old).disk.blobs)) (S.view store.old) result (S.view store.new) }
 {
     let mut at = 0;
     'blobs: loop {
@@ -41,7 +41,7 @@ fn sync_and_persist<S: Store>(
     start: u64,
     end: u64,
 ) -> Result<(), StoreFault>
-    ensures { Asks (map Sync (numbers (view store.old).disk.blobs) ++ persisting (ruled config) start end) (view store.old) result (view store.new) }
+    ensures { Asks (map Sync (numbers (S.view store.old).disk.blobs) ++ persisting (ruled config) start end) (S.view store.old) result (S.view store.new) }
 {
     sync_all(store)?;
     persist(store, config, start, end)
@@ -50,7 +50,7 @@ fn sync_and_persist<S: Store>(
 impl<S: Store, K> Trimmed<S, K> {
     // All its records are acknowledged.
     pub fn sync(self) -> Result<Trimmed<S, K>, Lost<S>>
-        ensures { Synced view self result }
+        ensures { Synced S.view self result }
     {
         let Trimmed {
             mut store,
@@ -82,7 +82,7 @@ impl<S: Store, K> Trimmed<S, K> {
 impl<S: Store, K: Record> Trimmed<S, K> {
     // One record after the last. A log that was configured for records of another size refuses it.
     pub fn append(self, item: K) -> Result<Trimmed<S, K>, Stop<Trimmed<S, K>, S>>
-        ensures sized { K.Record.size ≡ self.config.size → Appended view self (encode item) result }
+        ensures sized { K.Record.size ≡ self.config.size → Appended S.view self (K.encode item) result }
         ensures other { (K.Record.size ≢ self.config.size) → result ≡ Err (Refused self BadConfig) }
     {
         if K::size() as u64 != self.config.size {
@@ -118,7 +118,7 @@ impl<S: Store, K: Record> Trimmed<S, K> {
 impl<S: Store, K> Trimmed<S, K> {
     // Blobs below the one of a position go; answers whether any position went.
     pub fn prune(self, position: u64) -> Result<(Trimmed<S, K>, bool), Lost<S>>
-        ensures { Pruned view self position result }
+        ensures { Pruned S.view self position result }
     {
         let near = position.min(self.held.end);
         let b = near / self.config.records;

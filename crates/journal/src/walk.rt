@@ -14,8 +14,8 @@ use store::store::Store;
 
 // The lowest blob from b on that is not set aside.
 fn next_below<S: Store>(store: &S, b: u64, edge: Option<u64>) -> Result<Option<u64>, Fault>
-    requires { (view store.now).up ≡ true }
-    ensures { Gives (at_or_above b (below (edge_of edge) (view store.now).disk.blobs)) result }
+    requires { (S.view store.now).up ≡ true }
+    ensures { Gives (at_or_above b (below (edge_of edge) (S.view store.now).disk.blobs)) result }
 {
     let Some(found) = steps::at_or_above(store, b)? else {
         return Ok(None);
@@ -29,8 +29,8 @@ fn next_below<S: Store>(store: &S, b: u64, edge: Option<u64>) -> Result<Option<u
 }
 
 fn more_after<S: Store>(store: &S, b: u64, edge: Option<u64>) -> Result<bool, Fault>
-    requires { (view store.now).up ≡ true }
-    ensures { Gives (not (length (rest (b + 1) (below (edge_of edge) (view store.now).disk.blobs)) == 0)) result }
+    requires { (S.view store.now).up ≡ true }
+    ensures { Gives (not (length (rest (b + 1) (below (edge_of edge) (S.view store.now).disk.blobs)) == 0)) result }
 {
     if b == u64::MAX {
         return Ok(false);
@@ -46,8 +46,8 @@ fn fill<S: Store>(
     size: u64,
     b: u64,
 ) -> Result<(u64, bool), Fault>
-    requires { (view store.now).up ≡ true }
-    ensures { (x : Blob) → find (view store.now).disk.blobs b ≡ Some x → Fills (ruled config) start size b (length x.bytes / config.size) result }
+    requires { (S.view store.now).up ≡ true }
+    ensures { (x : Blob) → find (S.view store.now).disk.blobs b ≡ Some x → Fills (ruled config) start size b (length x.bytes / config.size) result }
 {
     let len = steps::len(store, b)? / config.size;
     let before = start.saturating_sub(b.saturating_mul(config.records));
@@ -69,8 +69,8 @@ fn walk_from<S: Store>(
     edge: Option<u64>,
     lowest: u64,
 ) -> Result<(u64, bool), Fault>
-    requires { (view store.now).up ≡ true }
-    ensures { Walks (walking (ruled config) start start lowest (rest lowest (below (edge_of edge) (view store.now).disk.blobs))) result }
+    requires { (S.view store.now).up ≡ true }
+    ensures { Walks (walking (ruled config) start start lowest (rest lowest (below (edge_of edge) (S.view store.now).disk.blobs))) result }
 {
     let mut size = start;
     let mut b = lowest;
@@ -100,8 +100,8 @@ pub fn recover_by_walking_lengths<S: Store>(
     start: u64,
     edge: Option<u64>,
 ) -> Result<(u64, bool), Fault>
-    requires { (view store.now).up ≡ true }
-    ensures { Walks (walk_all (ruled config) start (below (edge_of edge) (view store.now).disk.blobs)) result }
+    requires { (S.view store.now).up ≡ true }
+    ensures { Walks (walk_all (ruled config) start (below (edge_of edge) (S.view store.now).disk.blobs)) result }
 {
     let Some(lowest) = next_below(store, 0, edge)? else {
         return Ok((start, false));

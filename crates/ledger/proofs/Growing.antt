@@ -7,7 +7,7 @@ use Rattle.std.proofs.lemmas.Nat.{le-div}
 use Rattle.store.specs.Disk.{Disk, View}
 use Rattle.rules.specs.Rules.{Config, aligned, MAX, Plan, answer, SizeOverflow, EmptyAppend}
 use Rattle.rules.specs.Calls.{Running, appending, from, append_rule}
-use Rattle.rules.specs.Calls as calls-of
+use Rattle.rules.specs.Calls as calls_of
 use Rattle.ledger.specs.Ledger.{Ledger, appended}
 use Rattle.ledger.proofs.Chain.{chain_then}
 use Rattle.ledger.proofs.Appends.{aligned_next, owed_after, After, append_chain}
@@ -94,7 +94,7 @@ module _ {R : Type 0} (c : Config) (enc : R → List ℕ) (zp : 0 < c.z) (ez : (
       end = l.end + length (map enc rs)
 
       last : Plan (Running × ℕ)
-      last = answer (record { start = l.start; end = end; owed = calls-of.owed_after c k end }, end - 1)
+      last = answer (record { start = l.start; end = end; owed = calls_of.owed_after c k end }, end - 1)
 
 -- a running log reads all of its span
 pub run_good : {R : Type 0} (c : Config) (enc : R → List ℕ) (l : Ledger R) (r : Running) (v : View)

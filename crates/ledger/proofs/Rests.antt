@@ -5,7 +5,7 @@ use Rattle.store.specs.Disk.{Disk, numbers}
 use Rattle.store.specs.declared.keys.Keys.{Keys}
 use Rattle.rules.specs.Rules.{Config, MAX, blob_of, aligned, Plan, Fault, answer, refuse, ask, refuse_if, Corruption, ItemPruned, clearing}
 use Rattle.rules.specs.Open.{Opened, no_edge, weigh, open_rule, edge_at, or_max, is_below}
-use Rattle.rules.specs.Open as open-rules
+use Rattle.rules.specs.Open as open_rules
 use Rattle.ledger.specs.History.{Open}
 use Rattle.ledger.specs.Ledger.{Ledger, lower, refusal, entry}
 use Rattle.ledger.proofs.Blobs.{impossible}
@@ -104,7 +104,7 @@ module _ {R : Type 0} (c : Config) (enc : R → List ℕ) (np : 0 < c.n) (zp : 0
     below_none None = refl
     below_none (Some k) = le-ltb k 0 (omega arith)
 
-    empty_end : (m : Option ℕ) → Empty c d l → l.far ≡ 0 → (m ≡ None) ⊎ (m ≡ Some 0) → Leads S (Shows l) (weigh c 0 ceiling (edge_at c 0 ceiling) m (open-rules.stands 0 false)) d
+    empty_end : (m : Option ℕ) → Empty c d l → l.far ≡ 0 → (m ≡ None) ⊎ (m ≡ Some 0) → Leads S (Shows l) (weigh c 0 ceiling (edge_at c 0 ceiling) m (open_rules.stands 0 false)) d
     empty_end None w far mm = bare (Rattle.rules.specs.Rules.first_in c 0 (blob_of c 0)) (edge_at c 0 ceiling) w far
     empty_end (Some v) w far (inl e) = impossible cc
     empty_end (Some v) w far (inr e) =

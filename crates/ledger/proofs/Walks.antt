@@ -8,7 +8,7 @@ use Rattle.store.specs.Disk.{Blob, Blobs, Disk, find, numbers, Truncate, done, c
 use Rattle.rules.specs.Rules.{Config, MAX, blob_of, first_in, Plan, OffsetOverflow, Corruption}
 use Rattle.rules.specs.Open.{capacity, walk, walk_all, examine, valid, scanned, limit_of, needed, round_up, or_max, passes, acknowledged}
 use Rattle.rules.specs.Calls.{count}
-use Rattle.rules.specs.Open as open-rules
+use Rattle.rules.specs.Open as open_rules
 use Rattle.ledger.specs.Ledger.{Ledger}
 use Rattle.ledger.proofs.Blobs.{impossible, found_listed, find_change_same, find_change_other}
 use Rattle.ledger.proofs.Invariant.{first, room, first_is, room_is, Lowest, first_room, first_next, first_low, Fits, Standing}
@@ -66,19 +66,19 @@ walk_on c s size b len y ys e l f m =
     ∙ ap (λ (j : ℕ). walk c s (size + j) (b + 1) ys) l)))
 
 walk_ends : (c : Config) (s size b len : ℕ) (y : ℕ × Blob) (ys : Blobs) → y.0 ≡ b → length y.1.bytes / c.z ≡ len → len < capacity c s b → size + len ≤ MAX
-    → walk c s size b (y ∷ ys) ≡ open-rules.stands (size + len) (not (eqb (length ys) 0))
+    → walk c s size b (y ∷ ys) ≡ open_rules.stands (size + len) (not (eqb (length ys) 0))
 walk_ends c s size b len y ys e l f m =
     cond-false (not (eqb y.0 b)) _ _ (not_from_true (eqb y.0 b) (eq-eqb y.0 b e))
     ∙ (cond-false (ltb (capacity c s b) (length y.1.bytes / c.z)) _ _ (le-ltb (capacity c s b) (length y.1.bytes / c.z) (omega arith))
     ∙ (cond-false (ltb MAX (size + length y.1.bytes / c.z)) _ _ (le-ltb MAX (size + length y.1.bytes / c.z) (rw l m))
     ∙ (cond-false (eqb (length y.1.bytes / c.z) (capacity c s b)) _ _ (ne_eqb (length y.1.bytes / c.z) (capacity c s b) (λ q. omega arith))
-    ∙ ap (λ (j : ℕ). open-rules.stands (size + j) (not (eqb (length ys) 0))) l)))
+    ∙ ap (λ (j : ℕ). open_rules.stands (size + j) (not (eqb (length ys) 0))) l)))
 
 -- where a walk ends
 pub record Walks (c : Config) (s top size b : ℕ) (ys : Blobs) (reach : ℕ) : Type 0 where
   pub to : ℕ
   pub gap : Bool
-  pub is : walk c s size b ys ≡ open-rules.stands to gap
+  pub is : walk c s size b ys ≡ open_rules.stands to gap
   pub up : size ≤ to
   pub meets : min to top ≡ min reach top
 
@@ -112,7 +112,7 @@ module _ (c : Config) (s top lo : ℕ) (low : Lowest c s lo) (zp : 0 < c.z) wher
       (λ j z g. fits j z (let a = found_listed xs (b + 1) k j z rest g in grind (arith, nat_tests))) t.1 in
       let iu = ih.up in
       let im = ih.meets in
-      let on : len ≡ room c s b → walk c s size b (y ∷ ys) ≡ open-rules.stands ih.to ih.gap = λ e.
+      let on : len ≡ room c s b → walk c s size b (y ∷ ys) ≡ open_rules.stands ih.to ih.gap = λ e.
       walk_on c s size b len y ys (t.0.number ∙ head) refl (e ∙ sym rc) (omega arith) ∙ (ap (λ (j : ℕ). walk c s j (b + 1) ys) (omega arith) ∙ ih.is) in
       elim (cases_Bool (full c s x)) [
         | inl p ↦
@@ -149,7 +149,7 @@ module _ (c : Config) (s top lo : ℕ) (low : Lowest c s lo) (zp : 0 < c.z) wher
       ]
 
   pub walk_all_lem : (xs ys : Blobs) (k : ℕ) → numbers xs ≡ count lo k → ((j : ℕ) (x : Blob) → find xs j ≡ Some x → Fits c s j x) → AllSeen c s top xs ys
-      → (to : ℕ) × (g : Bool) × (walk_all c s ys ≡ open-rules.stands to g) × (min to top ≡ min (reach_of c s s xs) top)
+      → (to : ℕ) × (g : Bool) × (walk_all c s ys ≡ open_rules.stands to g) × (min to top ≡ min (reach_of c s s xs) top)
   walk_all_lem [] [] k n fits t = (s, false, refl, refl)
   walk_all_lem [] (y ∷ ys) k n fits t = elim t [ ]
   walk_all_lem (x ∷ xs) [] k n fits t = elim t [ ]

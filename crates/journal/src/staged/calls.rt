@@ -15,7 +15,7 @@ use store::store::Store;
 impl<S: Store, K> Opened<S, K> {
     // The log ends here: what is left is the store, with the clear staged in its keys.
     pub fn stage_clear(self, target: u64) -> Result<(S, StagedClear<K>), Stop<Opened<S, K>, S>>
-        ensures { Staged view self.config target (view self.store) self result }
+        ensures { Staged S.view self.config target (S.view self.store) self result }
     {
         if target == u64::MAX {
             return Err(Stop::Refused(self, Fault::SizeOverflow));
@@ -42,7 +42,7 @@ impl<S: Store, K> Opened<S, K> {
 
 impl<S: Store, K> Trimmed<S, K> {
     pub fn stage_clear(self, target: u64) -> Result<(S, StagedClear<K>), Stop<Trimmed<S, K>, S>>
-        ensures { Staged view self.config target (view self.store) self result }
+        ensures { Staged S.view self.config target (S.view self.store) self result }
     {
         if target == u64::MAX {
             return Err(Stop::Refused(self, Fault::SizeOverflow));
@@ -70,7 +70,7 @@ impl<S: Store, K> Trimmed<S, K> {
 impl<K> StagedClear<K> {
     // Carries the clear out.
     pub fn complete<S: Store>(self, mut store: S) -> Result<Trimmed<S, K>, Lost<S>>
-        ensures { Completed view self (view store) result }
+        ensures { Completed S.view self (S.view store) result }
     {
         let StagedClear {
             target,

@@ -1,7 +1,7 @@
 use Rattle.std.proofs.Common.{◌≡◌, ◌+◌, ◌++◌, length, take, vec_items, sym, refl, ap, ◌∙◌, arith}
 use Rattle.catalog.specs.declared.row.Row.{Row}
 use Rattle.catalog.specs.Rows.{sized}
-use Rattle.sectors.specs.Sectors.{goal as need-of}
+use Rattle.sectors.specs.Sectors.{need as need_of}
 use Rattle.sectors.specs.Chains.{joint}
 use Rattle.chains.specs.Cover.{chain_of}
 use Rattle.chains.proofs.Across.{moved_as, moved_then}
@@ -23,7 +23,7 @@ returns c =
       moved = moved_then (vec_items c.args.memory.now) mid new (chain_of row) c.args.free.now d c.shorten-chain.new.free c.extend.result c.extend.new.free
           c.shorten-chain.ensures.moved
           (moved_as mid mid (chain_of c.placed.result) d new new c.shorten-chain.new.free c.extend.result c.extend.new.free refl e refl c.extend.ensures.moved);
-      count = c.extend.ensures.count ∙ ap need-of n;
+      count = c.extend.ensures.count ∙ ap need_of n;
       bytes =
           ap (λ k. take k (joint new c.extend.result)) (sym n)
           ∙ c.extend.ensures.bytes

@@ -16,7 +16,7 @@ returns-in_err-ensure_blob g c =
     let w = g.S.Store.view c.ensure_blob.new.store in
     let y = c.in_err-ensure_blob.field-0.0 in
     let h = subst (λ (b : ℕ). Halts (open_if (has b (numbers v.disk.blobs)) b) v y w) c.position_to_blob.ensures c.in_err-ensure_blob.ensures in
-    let p = err_from_is_err_and c.from-residual.result c.from-residual.ensures.1 in
+    let p = err_from_is_err_and c.from_residual.result c.from_residual.ensures.1 in
     rw (p.1, p.2)
     (asks_early (open_if (has (blob_of rule c.args.end) (numbers v.disk.blobs)) (blob_of rule c.args.end)) (adding rule c.args.end c.args.bytes.now) v w y h)
 

@@ -9,7 +9,7 @@ use Rattle.journal.proofs.bounds.recover_pruning_boundary.Goals as goal
 
 pub returns-in_err-first : goal.returns-in_err-first
 returns-in_err-first c =
-    let p = err_from_is_err_and c.from-residual.result c.from-residual.ensures.1 in
+    let p = err_from_is_err_and c.from_residual.result c.from_residual.ensures.1 in
     rw (p.1, p.2) (λ k. start_over (ruled c.args.config) c.args.hint c.args.lowest c.in_err-first.field-0.0 k c.in_err-first.ensures)
 
 pub returns-in_default-lowest : goal.returns-in_default-lowest

@@ -12,7 +12,7 @@ returns-in_err-remove_all g c =
     let v = g.S.Store.view c.args.store.now in
     let rule = ruled c.args.config in
     let t = c.args.target in
-    let p = err_from_is_err_and c.from-residual.result c.from-residual.ensures.1 in
+    let p = err_from_is_err_and c.from_residual.result c.from_residual.ensures.1 in
     rw (p.1, p.2)
     (asks_early (map Remove (numbers v.disk.blobs)) (Open (blob_of rule t) ∷ (DropKey Target ∷ persist rule t t)) v
     (g.S.Store.view c.remove_all.new.store) c.in_err-remove_all.field-0.0 c.in_err-remove_all.ensures)

@@ -46,6 +46,6 @@ returns-in_err-remove g c =
     let it = answered_it v.up (at_or_above 0 v.disk.blobs) c.in_ok-b.field-0 q in
     let y = c.in_err-remove.field-0.0 in
     let e = lowest_first v.disk.blobs c.in-Some.b (it ∙ c.in-Some.is) in
-    let p = err_from_is_err_and c.from-residual-in_err-remove.result c.from-residual-in_err-remove.ensures.1 in
+    let p = err_from_is_err_and c.from_residual-in_err-remove.result c.from_residual-in_err-remove.ensures.1 in
     rw (p.1, p.2)
     (c.blobs.invariant (Err y) w (turn_stop Remove (numbers v.disk.blobs) (numbers (without c.in-Some.b v.disk.blobs)) c.in-Some.b v w y e up c.in_err-remove.ensures))

@@ -38,7 +38,7 @@ returns-in_err-remove g c =
     let e = up_to_first c.args.b n v.disk.blobs (omega arith) (it ∙ c.in-Some.is) in
     let w = g.S.Store.view c.remove.new.store in
     let y = c.in_err-remove.field-0.0 in
-    let p = err_from_is_err_and c.from-residual-in_err-remove.result c.from-residual-in_err-remove.ensures.1 in
+    let p = err_from_is_err_and c.from_residual-in_err-remove.result c.from_residual-in_err-remove.ensures.1 in
     rw (p.1, p.2) (c.blobs.invariant (Err y) w (turn_stop Remove ns (up_to c.args.b (numbers (without n v.disk.blobs))) n v w y e up c.in_err-remove.ensures))
 
 pub blobs-smaller : goal.blobs-smaller

@@ -11,7 +11,7 @@ pub returns-in_err-sync_all : goal.returns-in_err-sync_all
 returns-in_err-sync_all g c =
     let v = g.S.Store.view c.args.store.now in
     let ns = numbers v.disk.blobs in
-    let p = err_from_is_err_and c.from-residual.result c.from-residual.ensures.1 in
+    let p = err_from_is_err_and c.from_residual.result c.from_residual.ensures.1 in
     rw (p.1, p.2)
     (asks_early (map Sync ns) (map Remove (up_to c.args.b ns)) v (g.S.Store.view c.sync_all.new.store) c.in_err-sync_all.field-0.0 c.in_err-sync_all.ensures)
 

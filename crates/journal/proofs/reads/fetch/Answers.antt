@@ -26,7 +26,7 @@ returns-in_err-read g c =
     let h = c.in_err-read.ensures in
     let y = c.in_err-read.field-0.0 in
     let e = same rule c.args.start v c.args.position c.position_to_blob.result c.offset_of-at.result (length c.args.bytes.now) (Err y.cause) (g.met.S.Store.lawful c.args.store.now) c.args.config.ok.2 c.position_to_blob.ensures c.offset_of-at.ensures c.requires h.1 in
-    let p = err_from_is_err_and c.from-residual.result c.from-residual.ensures.1 in
+    let p = err_from_is_err_and c.from_residual.result c.from_residual.ensures.1 in
     rw (p.1, p.2)
     (Copied (blob_of rule c.args.position), h.0 ∙ ap at.Copied c.position_to_blob.ensures, read_stop g.K.Record.decode rule c.args.start v c.args.position y.cause e)
 

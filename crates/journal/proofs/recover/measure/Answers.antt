@@ -20,7 +20,7 @@ returns-in_err-walked g c =
     let E = edge_at rule s.start s.ceiling in
     let f = c.in_err-walked.field-0.0 in
     let h = subst (λ (n : ℕ). Walks (walk_all rule s.start (below n v.disk.blobs)) (Err f)) c.edge_at-edge.ensures c.in_err-walked.ensures in
-    let p = err_from_is_err_and c.from-residual.result c.from-residual.ensures.1 in
+    let p = err_from_is_err_and c.from_residual.result c.from_residual.ensures.1 in
     rw (p.1, p.2) (weigh_wrong rule s.start E s.ceiling c.args.mark (walk_all rule s.start (below E v.disk.blobs)) f h)
 
 pub returns : goal.returns

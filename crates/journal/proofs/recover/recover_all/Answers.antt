@@ -15,7 +15,7 @@ returns-in_err-target g c =
     let y = c.in_err-target.field-0.0 in
     let h = c.in_err-target.ensures in
     let d = refused_down v.up v.disk.present.target y.cause h.1 in
-    let p = err_from_is_err_and c.from-residual.result c.from-residual.ensures.1 in
+    let p = err_from_is_err_and c.from_residual.result c.from_residual.ensures.1 in
     rw (p.1, p.2) (open_down (if_staged v.disk.present.target (cleared rule c.args.ceiling v.disk) (standing rule c.args.ceiling v.disk)) v y (Looked Target) d.0 d.1 h.0)
 
 pub returns-in-Some : goal.returns-in-Some

@@ -10,7 +10,7 @@ pub returns-in_err-complete_clear : goal.returns-in_err-complete_clear
 returns-in_err-complete_clear g c =
     let v = g.S.Store.view c.args.store.now in
     let w = g.S.Store.view c.complete_clear.new.store in
-    let p = err_from_is_err_and c.from-residual.result c.from-residual.ensures.1 in
+    let p = err_from_is_err_and c.from_residual.result c.from_residual.ensures.1 in
     rw (p.1, p.2) (cleared_stops (ruled c.args.config) c.args.ceiling v w c.args.target (omega arith) c.in_err-complete_clear.field-0.0 c.requires c.in_err-complete_clear.ensures)
 
 pub returns-then-top-target : goal.returns-then-top-target

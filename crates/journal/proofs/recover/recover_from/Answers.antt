@@ -17,7 +17,7 @@ returns-in_err-admit g c =
     let v = g.S.Store.view c.args.store.now in
     let s = c.args.scope in
     let q = spanned (ruled s.config) s.start s.ceiling v.disk in
-    let p = err_from_is_err_and c.from-residual.result c.from-residual.ensures.1 in
+    let p = err_from_is_err_and c.from_residual.result c.from_residual.ensures.1 in
     rw (p.1, p.2) (tells_ends (admitted (ruled s.config) s.start s.ceiling v.disk.blobs q) v c.in_err-admit.field-0.0 (c.in_err-admit.ensures q))
 
 pub returns : goal.returns

@@ -22,7 +22,7 @@ returns-in_err-examine_two g c =
     let s = c.args.scope in
     let w = g.S.Store.view c.examine_two.new.store in
     let m = answered_it v.up v.disk.present.watermark c.in_ok-mark.mark c.in_ok-mark.ensures in
-    let p = err_from_is_err_and c.from-residual-in_err-examine_two.result c.from-residual-in_err-examine_two.ensures.1 in
+    let p = err_from_is_err_and c.from_residual-in_err-examine_two.result c.from_residual-in_err-examine_two.ensures.1 in
     rw (p.1, p.2) (span_stops (ruled s.config) s.start s.ceiling v w (edge_of c.edge_at-edge.result) c.floor_of.result c.in_ok-mark.mark (sym m) c.floor_of.ensures c.edge_at-edge.ensures c.in_err-examine_two.field-0.0 c.in_err-examine_two.ensures)
 
 pub returns : goal.returns

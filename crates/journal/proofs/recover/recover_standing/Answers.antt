@@ -18,7 +18,7 @@ returns-in_err-start g c =
     let v = g.S.Store.view c.args.store.now in
     let rule = ruled c.args.config in
     let k : ℕ → Plan Opened = λ s. admitted rule s c.args.ceiling v.disk.blobs (spanned rule s c.args.ceiling v.disk) in
-    let p = err_from_is_err_and c.from-residual.result c.from-residual.ensures.1 in
+    let p = err_from_is_err_and c.from_residual.result c.from_residual.ensures.1 in
     rw (p.1, p.2) (tells_ends (start_at rule v.disk.present.hint (lowest v.disk.blobs) k) v c.in_err-start.field-0.0 (c.in_err-start.ensures k))
 
 pub returns : goal.returns

@@ -39,7 +39,7 @@ returns-then-valid-owed g c x f =
 
 pub returns-in_err-truncate : goal.returns-in_err-truncate
 returns-in_err-truncate g c =
-    let p = err_from_is_err_and c.from-residual-in_err-truncate.result c.from-residual-in_err-truncate.ensures.1 in
+    let p = err_from_is_err_and c.from_residual-in_err-truncate.result c.from_residual-in_err-truncate.ensures.1 in
     rw (p.1, p.2)
     (λ x f.
     let v = g.S.Store.view c.args.store.now in

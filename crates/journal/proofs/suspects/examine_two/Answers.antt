@@ -26,7 +26,7 @@ returns-in_err-examine_suspect g c =
     let b = c.in-Some.high in
     let p = split_at e b v (g.met.S.Store.lawful c.args.store.now) (sym c.in_ok-high.ensures ∙ c.in-Some.is) in
     let w = g.S.Store.view c.examine_suspect.new.store in
-    let r = err_from_is_err_and c.from-residual-in_err-examine_suspect.result c.from-residual-in_err-examine_suspect.ensures.1 in
+    let r = err_from_is_err_and c.from_residual-in_err-examine_suspect.result c.from_residual-in_err-examine_suspect.ensures.1 in
     rw (r.1, r.2) (first_stops rule s.start s.ceiling c.args.floor e b v p c.in_err-examine_suspect.field-0.0 w (c.in_err-examine_suspect.ensures p.blob p.found))
 
 pub highest_below-requires-2 : goal.highest_below-requires-2

@@ -33,7 +33,7 @@ returns-in_err-sync g c =
     let e = from_some 0 c.blobs.at b v.disk.blobs (up_all v (g.met.S.Store.lawful c.blobs.store)) (it ∙ c.in-Some.is) in
     let w = g.S.Store.view c.sync.new.store in
     let y = c.in_err-sync.field-0.0 in
-    let p = err_from_is_err_and c.from-residual-in_err-sync.result c.from-residual-in_err-sync.ensures.1 in
+    let p = err_from_is_err_and c.from_residual-in_err-sync.result c.from_residual-in_err-sync.ensures.1 in
     rw (p.1, p.2) (c.blobs.invariant (Err y) w (turn_stop Sync ns (from (b + 1) (numbers v.disk.blobs)) b v w y e up c.in_err-sync.ensures))
 
 pub returns-then-b : goal.returns-then-b

@@ -9,7 +9,7 @@ use Rattle.journal.proofs.trimmed.sync_and_persist.Goals as goal
 pub returns-in_err-sync_all : goal.returns-in_err-sync_all
 returns-in_err-sync_all g c =
     let v = g.S.Store.view c.args.store.now in
-    let p = err_from_is_err_and c.from-residual.result c.from-residual.ensures.1 in
+    let p = err_from_is_err_and c.from_residual.result c.from_residual.ensures.1 in
     rw (p.1, p.2)
     (asks_early (map Sync (numbers v.disk.blobs)) (persist (ruled c.args.config) c.args.start c.args.end) v
     (g.S.Store.view c.sync_all.new.store) c.in_err-sync_all.field-0.0 c.in_err-sync_all.ensures)

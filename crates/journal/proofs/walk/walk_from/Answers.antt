@@ -30,7 +30,7 @@ returns-in_err-grown g c =
     let n : c.in-Some.next ≡ c.walk.b = omega arith in
     let q = sym c.in_ok-next.ensures ∙ (c.in-Some.is ∙ ap (λ (k : ℕ). Some k) n) in
     let y = c.in_err-grown.field-0.0 in
-    let p = err_from_is_err_and c.from-residual-in_err-grown.result c.from-residual-in_err-grown.ensures.1 in
+    let p = err_from_is_err_and c.from_residual-in_err-grown.result c.from_residual-in_err-grown.ensures.1 in
     rw (p.1, p.2) (subst (λ (k : Walked). Walks k (Err y)) (sym c.walk.invariant) (turn_wrong (ruled c.args.config) c.args.start c.walk.size c.walk.b e v laws q y c.in_err-grown.ensures))
 
 pub walk-preserved : goal.walk-preserved

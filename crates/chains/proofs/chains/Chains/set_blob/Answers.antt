@@ -11,7 +11,7 @@ use Rattle.catalog.specs.Blobs.{live, row_at as row_now}
 use Rattle.catalog.proofs.Lookup.{rising_blobs}
 use Rattle.catalog.proofs.Stored.{as_disk}
 use Rattle.sectors.specs.declared.chain.Chain.{Chain}
-use Rattle.sectors.specs.Sectors.{goal as need-of}
+use Rattle.sectors.specs.Sectors.{need as need_of}
 use Rattle.sectors.specs.Chains.{joint, Moved}
 use Rattle.chains.specs.declared.chains.Chains.{Chains}
 use Rattle.chains.specs.Cover.{usable, chain_of, placed_row}
@@ -26,7 +26,7 @@ use Rattle.chains.proofs.chains.Chains.set_blob.Goals as goal
 
 -- blob b of t, in row i, becomes x
 becomes_given : (t : Chains) (b i : ℕ) (bs : List ℕ) (sound safe : ℕ) (new : List ℕ) (u : Table) (d g : Chain) (r : Row) → Held b t i
-    → length new ≡ length (vec_items t.memory) → Moved (vec_items t.memory) (chain_of (row_at t i)) t.free new d g → d.count ≡ need-of (length bs)
+    → length new ≡ length (vec_items t.memory) → Moved (vec_items t.memory) (chain_of (row_at t i)) t.free new d g → d.count ≡ need_of (length bs)
     → take (length bs) (joint new d) ≡ bs → r ≡ placed_row (sized (row_at t i) (length bs) sound safe) d
     → u.rows ≡ set t.catalog.table.rows i r → u.count ≡ t.catalog.table.count
     → Becomes t b (λ _. record { bytes = bs; sound = sound; safe = safe }) new u g
@@ -41,12 +41,12 @@ returns-in_default c = absurd (insert_finds c.args.b (blobs c.args.self.now) (ap
 
 -- the sectors that it had, and the free ones, are enough
 enough : (s t : Chains) (b i n r : ℕ) → Held b t i → t.free ≡ s.free → blobs t ≡ insert b (blobs s) → r ≡ room_in s.sectors (blobs s) b + bytes_there (find (blobs s) b)
-    → n ≤ r → n ≤ 60 * (need-of (row_at t i).len + t.free.count)
+    → n ≤ r → n ≤ 60 * (need_of (row_at t i).len + t.free.count)
 enough s t b i n r h f e is l =
     let a : bytes_there (find (blobs t) b) ≡ bytes_there (find (blobs s) b) =
     ap (λ (xs : Blobs). bytes_there (find xs b)) e ∙ opened_bytes b (blobs s) (rising_blobs (blob_in s) s.catalog.table) in
     let k : (row_at t i).len ≡ bytes_there (find (blobs s) b) = sym h.held.long ∙ sym (ap bytes_there h.found) ∙ a in
-    omega (arith, limit_is s b, ap need-of k, ap (λ (x : Chain). x.count) f)
+    omega (arith, limit_is s b, ap need_of k, ap (λ (x : Chain). x.count) f)
 
 pub replace-chain-requires : goal.replace-chain-requires
 replace-chain-requires c =

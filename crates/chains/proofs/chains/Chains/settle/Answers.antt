@@ -6,7 +6,7 @@ use Rattle.catalog.specs.declared.table.Table.{Table}
 use Rattle.catalog.specs.Rows.{cut_left, filled_left}
 use Rattle.catalog.specs.Blobs.{live}
 use Rattle.sectors.specs.declared.chain.Chain.{Chain}
-use Rattle.sectors.specs.Sectors.{goal as need-of}
+use Rattle.sectors.specs.Sectors.{need as need_of}
 use Rattle.sectors.specs.Chains.{joint, Moved, Filled}
 use Rattle.chains.specs.declared.chains.Chains.{Chains}
 use Rattle.chains.specs.Cover.{usable, chain_of, placed_row}
@@ -22,7 +22,7 @@ module _ (s : Chains) (i : ℕ) (how : Restart) (m k : ℕ) (r : Row) (l : i < s
   is : m ≡ min (row_at s i).sound ((row_at s i).safe + how.keep)
   is = omega (arith, ap (λ (x : Row). x.safe) h.is, ap (λ (x : Row). x.sound) h.is, h.safe_within)
 
-  cuts : (d g : Chain) (v : Row) → how.past ≡ Cut → Moved (vec_items s.memory) (chain_of r) s.free new d g → d.count ≡ need-of m
+  cuts : (d g : Chain) (v : Row) → how.past ≡ Cut → Moved (vec_items s.memory) (chain_of r) s.free new d g → d.count ≡ need_of m
       → take m (joint new d) ≡ take m (joint (vec_items s.memory) (chain_of r)) → v ≡ placed_row (cut_left m r) d → u.rows ≡ set s.catalog.table.rows i v
       → Settled s i how new u g
   cuts d g v p moved n bytes w rows =

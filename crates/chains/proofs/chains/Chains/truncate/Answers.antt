@@ -7,7 +7,7 @@ use Rattle.catalog.specs.Rows.{cut_row}
 use Rattle.catalog.specs.Blobs.{live}
 use Rattle.catalog.proofs.Stored.{on_disk}
 use Rattle.sectors.specs.declared.chain.Chain.{Chain}
-use Rattle.sectors.specs.Sectors.{goal as need-of}
+use Rattle.sectors.specs.Sectors.{need as need_of}
 use Rattle.sectors.specs.Chains.{joint, Moved}
 use Rattle.chains.specs.declared.chains.Chains.{Chains}
 use Rattle.chains.specs.Cover.{usable, chain_of, placed_row}
@@ -27,7 +27,7 @@ returns-then-not-self c =
 
 -- blob b, in row i, cut to n bytes
 cuts : (s : Chains) (b i n : ℕ) (new : List ℕ) (u : Table) (d g : Chain) (r : Row) → Held b s i → n ≤ (row_at s i).len → length new ≡ length (vec_items s.memory)
-    → Moved (vec_items s.memory) (chain_of (row_at s i)) s.free new d g → d.count ≡ need-of n
+    → Moved (vec_items s.memory) (chain_of (row_at s i)) s.free new d g → d.count ≡ need_of n
     → take n (joint new d) ≡ take n (joint (vec_items s.memory) (chain_of (row_at s i)))
     → r ≡ placed_row (cut_row n (row_at s i)) d → u.rows ≡ set s.catalog.table.rows i r → u.count ≡ s.catalog.table.count
     → Becomes s b (cut_to n) new u g
@@ -44,9 +44,9 @@ invariant_of-self-4 c =
     let s = c.args.self.now in
     let x = c.shorten-chain in
     let new = x.new.memory in
-    let b = cuts s c.args.b c.in-Some.i c.args.n (vec_items new) c.change.new.self x.result x.new.free c.placed_row.result
+    let b = cuts s c.args.b c.in-Some.i c.args.n (vec_items new) c.change.new.self x.result x.new.free c.placed-row.result
     c.in-Some.ensures (omega arith) (omega (arith, s.memory.ok, new.ok, x.ensures.long)) x.ensures.moved x.ensures.count x.ensures.bytes
-    (c.placed_row.ensures ∙ ap (λ (y : Row). placed_row y x.result) c.cut.ensures) c.change.ensures.rows c.change.ensures.count in
+    (c.placed-row.ensures ∙ ap (λ (y : Row). placed_row y x.result) c.cut.ensures) c.change.ensures.rows c.change.ensures.count in
     let o = owed s.sectors (vec_items new) (live c.change.new.self) x.new.free b.chains in
     record { cut = s.cut ∙ ap (λ m. usable (m / 64)) (sym x.ensures.long); ends = o.0; rest = o.1.0; covers = o.1.1.0; counts = o.1.1.1.0 }
 
@@ -57,9 +57,9 @@ returns c =
     let new = x.new.memory in
     let h = c.in-Some.ensures in
     let n = c.args.n in
-    let b = cuts s c.args.b c.in-Some.i n (vec_items new) c.change.new.self x.result x.new.free c.placed_row.result
+    let b = cuts s c.args.b c.in-Some.i n (vec_items new) c.change.new.self x.result x.new.free c.placed-row.result
     h (omega arith) (omega (arith, s.memory.ok, new.ok, x.ensures.long)) x.ensures.moved x.ensures.count x.ensures.bytes
-    (c.placed_row.ensures ∙ ap (λ (y : Row). placed_row y x.result) c.cut.ensures) c.change.ensures.rows c.change.ensures.count in
+    (c.placed-row.ensures ∙ ap (λ (y : Row). placed_row y x.result) c.cut.ensures) c.change.ensures.rows c.change.ensures.count in
     record {
       wrote = (
         search rules,
