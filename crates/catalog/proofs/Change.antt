@@ -1,12 +1,12 @@
 -- One row is changed, and with it what rows stand for (g before, h after): what the blobs are then.
-use Rattle.std.proofs.Common.{◌≡◌, ℕ, zero, suc, ◌+◌, ◌-◌, ◌<◌, ◌≤◌, List, [], ◌∷◌, map, length, get_or, take, set, sym, refl, ap, ◌∙◌, subst, arith}
+use Rattle.std.proofs.Common.{◌≡◌, ℕ, zero, suc, ◌<◌, List, [], ◌∷◌, map, length, get_or, take, set, sym, refl, ap, ◌∙◌, subst, arith}
 use Rattle.std.proofs.lemmas.List.{map-set}
-use Rattle.store.specs.Disk.{Blob, Blobs, blank, change, numbers}
+use Rattle.store.specs.Disk.{Blob, change, numbers}
 use Rattle.store.specs.Laws.{Whole, AllWhole}
 use Rattle.store.proofs.Places.{change_here}
 use Rattle.catalog.specs.declared.row.Row.{Row}
 use Rattle.catalog.specs.declared.table.Table.{Table}
-use Rattle.catalog.specs.Rows.{none, numbers_of, Each}
+use Rattle.catalog.specs.Rows.{none, Each}
 use Rattle.catalog.specs.Blobs.{live, row_at, entry_by, blobs_by}
 use Rattle.catalog.specs.Found.{Here}
 use Rattle.catalog.proofs.Live.{take_set_in, each_set, map_same}

@@ -1,9 +1,9 @@
 -- A blob comes, and a blob goes: what the blobs are then.
-use Rattle.std.proofs.Common.{◌≡◌, ℕ, suc, ◌+◌, ◌-◌, ◌<◌, ◌≤◌, List, [], ◌∷◌, ◌++◌, map, length, get_or, take, sym, refl, ap, ◌∙◌, subst, arith}
+use Rattle.std.proofs.Common.{◌≡◌, ℕ, ◌+◌, ◌-◌, ◌<◌, ◌≤◌, List, ◌++◌, map, length, get_or, take, sym, ap, ◌∙◌, subst, arith}
 use Rattle.std.specs.List.{insert as inserted, remove}
 use Rattle.std.proofs.lemmas.List.{take_at}
 use Rattle.std.proofs.lemmas.List.Edits.{length-insert, length-remove}
-use Rattle.store.specs.Disk.{Blob, Blobs, blank, numbers, insert, without}
+use Rattle.store.specs.Disk.{Blob, blank, numbers, insert, without}
 use Rattle.store.specs.Place.{Sought}
 use Rattle.store.proofs.Places.{insert_here, insert_new, without_here}
 use Rattle.catalog.specs.declared.row.Row.{Row}

@@ -1,9 +1,9 @@
 -- The blobs of a table by place, and the lookup by number, for any g from rows to blobs.
-use Rattle.std.proofs.Common.{◌≡◌, ℕ, zero, suc, ◌+◌, ◌-◌, ◌<◌, ◌≤◌, List, [], ◌∷◌, map, length, get_or, take, Some, None, sym, refl, ap, ◌∙◌, subst, inl, inr, arith}
+use Rattle.std.proofs.Common.{◌≡◌, ℕ, suc, ◌-◌, ◌<◌, ◌≤◌, List, [], ◌∷◌, map, length, get_or, Some, None, sym, refl, ap, ◌∙◌, subst, inl, inr, arith}
 use lib.ListN.{length-map}
 use Rattle.std.proofs.lemmas.List.{get_or-map, get_or-take, length-take-le}
 use Rattle.std.proofs.lemmas.Bool.{cases_lt}
-use Rattle.store.specs.Disk.{Blob, Blobs, blank, find, numbers, at_or_above, at_or_below}
+use Rattle.store.specs.Disk.{Blob, blank, find, numbers, at_or_above, at_or_below}
 use Rattle.store.specs.Laws.{Rising}
 use Rattle.store.specs.Place.{Sought}
 use Rattle.store.proofs.Places.{find_here, find_missing, length_numbers, above_here, above_none, below_none, below_here}
@@ -12,7 +12,7 @@ use Rattle.catalog.specs.declared.table.Table.{Table}
 use Rattle.catalog.specs.Rows.{none, numbers_of, Ordered}
 use Rattle.catalog.specs.Blobs.{live, row_at, entry_by, blobs_by}
 use Rattle.catalog.specs.Found.{Here}
-use Rattle.catalog.proofs.Live.{length_live, number_live}
+use Rattle.catalog.proofs.Live.{number_live}
 
 numbers_map : (g : Row → Blob) (rs : List Row) → numbers (map (entry_by g) rs) ≡ numbers_of rs
 numbers_map g [] = refl

@@ -1,5 +1,5 @@
 -- The blobs of a store with a catalog.
-use Rattle.std.proofs.Common.{◌≡◌, ℕ, ◌<◌, ap, ◌∙◌, arith}
+use Rattle.std.proofs.Common.{◌≡◌, ℕ, ap, ◌∙◌, arith}
 use Rattle.store.specs.declared.keys.Keys.{Keys}
 use Rattle.store.specs.Disk.{Blobs, Disk}
 use Rattle.store.specs.Laws.{AllWhole, Lawful}

@@ -1,5 +1,5 @@
 -- The chains of all blobs and the free chain, as one of them takes sectors from the free chain or gives them back.
-use Rattle.std.specs.Prelude.{◌≡◌, ℕ, suc, ◌+◌, ◌-◌, ◌/◌, ◌<◌, ◌≤◌, min, List, ◌++◌, length, get_or, take, drop, set, vec_items, vec_len, ◌≢◌, slice_index_or, slice_set, refl}
+use Rattle.std.specs.Prelude.{◌≡◌, ℕ, suc, ◌/◌, ◌<◌, ◌≤◌, min, List, ◌++◌, length, get_or, take, drop, set, vec_items, vec_len, ◌≢◌, slice_index_or, slice_set, refl}
 use Rattle.std.proofs.Common.{arith, sym, ap, ◌∙◌, subst, inl, inr, length-set}
 use Rattle.std.specs.List.{flat_map, insert, remove}
 use Rattle.std.proofs.lemmas.List.{get_or-set_same, get_or-set_other, take-set, drop-set-lt}
@@ -11,7 +11,7 @@ use Rattle.catalog.specs.Rows.{none, Each, fresh_row}
 use Rattle.catalog.specs.Blobs.{live}
 use Rattle.catalog.proofs.Moves.{inserted_each, removed_each}
 use Rattle.sectors.specs.declared.chain.Chain.{Chain}
-use Rattle.sectors.specs.Sectors.{next_of, payload, sectors, once, need, Apart}
+use Rattle.sectors.specs.Sectors.{next_of, payload, once, need, Apart}
 use Rattle.sectors.specs.Chains.{list, joint, Stands, Both, Filled, Moved, uses}
 use Rattle.sectors.proofs.Paths.{once_one}
 use Rattle.sectors.proofs.Pieces.{joined_same}

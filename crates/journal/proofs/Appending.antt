@@ -2,7 +2,7 @@
 use Rattle.std.proofs.Common.{◌≡◌, ℕ, ◌+◌, ◌<◌, true, leb, List, ◌++◌, refl, arith}
 use Rattle.std.proofs.lemmas.Bool.{le-leb, lt-leb}
 use Rattle.store.specs.Disk.{View, Op, numbers}
-use Rattle.rules.specs.Rules.{Config, MAX, Plan, answer, ask, calls, answered, Follows, blob_of}
+use Rattle.rules.specs.Rules.{Config, MAX, answer, ask, calls, answered, Follows, blob_of}
 use Rattle.rules.specs.Rules.{SizeOverflow as Over}
 use Rattle.rules.specs.Open.{Opened, no_edge}
 use Rattle.rules.specs.Calls.{has, open_if, trimmed_append_rule}

@@ -1,8 +1,8 @@
 -- What becomes of a suspect.
-use Rattle.std.proofs.Common.{◌≡◌, ℕ, ◌+◌, ◌<◌, ◌≤◌, Bool, true, false, cond, eqb, ltb, ◌⊎◌, List, [], ◌∷◌, Some, None, Ok, Err, Option, sym, refl, ap, ◌∙◌, subst, inl, inr, arith}
-use Rattle.std.proofs.lemmas.Bool.{lt-ltb, le-ltb, cases_Bool, eqb-true}
+use Rattle.std.proofs.Common.{◌≡◌, ℕ, ◌<◌, ◌≤◌, true, false, eqb, [], ◌∷◌, Some, Option, sym, refl, ap, ◌∙◌, subst, inl, inr}
+use Rattle.std.proofs.lemmas.Bool.{lt-ltb, le-ltb, cases_Bool}
 use Rattle.store.specs.Disk.{Blob, Blobs, Disk, View, find, change, cut_to, Does, Refuses, Truncate}
-use Rattle.rules.specs.Rules.{Config, MAX, Plan, blob_of, call, refuse, refuse_if, refused, stopped, Follows, Wrote}
+use Rattle.rules.specs.Rules.{Config, MAX, Plan, blob_of, call, refuse, refused, stopped, Follows, Wrote}
 use Rattle.rules.specs.Rules.{OffsetOverflow as Over}
 use Rattle.rules.specs.Rules.{Corruption as Corrupted}
 use Rattle.rules.specs.Open.{Opened, examine, acknowledged, passes, valid}
@@ -10,8 +10,7 @@ use Rattle.journal.specs.declared.fault.StoreFault.{StoreFault}
 use Rattle.journal.specs.declared.fault.Corrupt.TheVariants.{Acknowledged}
 use Rattle.journal.specs.declared.fault.Fault.TheVariants.{OffsetOverflow, Corruption, Store}
 use Rattle.journal.specs.Faults.{step_of_op}
-use Rattle.journal.specs.Recovery.{Ends, Leads, Stood}
-use Rattle.journal.proofs.Taken.{impossible}
+use Rattle.journal.specs.Recovery.{Ends, Stood}
 
 -- one blob of a list, changed to what it is made of it
 pub change_to : (f : Blob → Blob) (b : ℕ) (xs : Blobs) (x : Blob) → find xs b ≡ Some x → change f b xs ≡ change (λ _. f x) b xs

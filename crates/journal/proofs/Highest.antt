@@ -1,11 +1,11 @@
 -- The highest blobs below an edge, and what a change of them leaves.
-use Rattle.std.proofs.Common.{◌≡◌, ℕ, suc, ◌+◌, ◌*◌, ◌<◌, ◌≤◌, Bool, true, false, cond, ◌||◌, eqb, ltb, ◌⊎◌, List, [], ◌∷◌, ◌++◌, reverse, length, get_or, Some, None, Option, sym, refl, ap, ◌∙◌, subst, inl, inr, append_assoc, mul-le-mul_right, arith}
+use Rattle.std.proofs.Common.{◌≡◌, ℕ, suc, ◌+◌, ◌*◌, ◌<◌, ◌≤◌, eqb, ltb, [], ◌∷◌, ◌++◌, reverse, Some, None, Option, sym, refl, ap, ◌∙◌, inl, inr, append_assoc, mul-le-mul_right, arith}
 use mathlib.Core.List.{reverse-append, reverse-cons, reverse-reverse}
 use Rattle.std.proofs.lemmas.Bool.{lt-ltb, le-ltb, eq-eqb, ne_eqb, cases_lt, cases_Bool}
-use Rattle.store.specs.Disk.{Blob, Blobs, View, find, numbers, at_or_below_or, change}
-use Rattle.store.specs.Laws.{Lawful, Below}
+use Rattle.store.specs.Disk.{Blob, Blobs, find, numbers, at_or_below_or, change}
+use Rattle.store.specs.Laws.{Below}
 use Rattle.rules.specs.Rules.{Config, MAX}
-use Rattle.rules.specs.Open.{below, any_over, no_edge}
+use Rattle.rules.specs.Open.{below, any_over}
 use Rattle.journal.specs.Recovery.{last_or, highest}
 use Rattle.journal.proofs.Taken.{impossible}
 use Rattle.journal.proofs.Walking.{Up}

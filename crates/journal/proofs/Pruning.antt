@@ -1,7 +1,7 @@
 -- Blobs below a number.
-use Rattle.std.proofs.Common.{◌≡◌, ℕ, ◌+◌, ◌*◌, ◌<◌, ◌≤◌, min, Bool, true, false, cond, eqb, ltb, leb, ◌⊎◌, List, [], ◌∷◌, ◌++◌, map, Some, None, Ok, Err, Option, Result, sym, refl, ap, ◌∙◌, subst, inl, inr, arith}
+use Rattle.std.proofs.Common.{◌≡◌, ℕ, ◌+◌, ◌*◌, ◌<◌, ◌≤◌, min, Bool, true, false, cond, eqb, ltb, leb, List, [], ◌∷◌, ◌++◌, map, Some, None, Ok, Err, Result, sym, refl, ap, ◌∙◌, subst, inl, inr, arith}
 use Rattle.std.proofs.lemmas.Bool.{lt-ltb, le-ltb, le-leb, lt-leb, cases_Bool}
-use Rattle.store.specs.Disk.{Blob, Blobs, Disk, View, Op, Open, Remove, Sync, numbers, insert, without, at_or_above, synced}
+use Rattle.store.specs.Disk.{Blobs, Disk, View, Op, Open, Remove, Sync, numbers, insert, without, at_or_above, synced}
 use Rattle.rules.specs.Rules.{Config, Plan, answer, calls, answered, stopped, Follows, blob_of}
 use Rattle.rules.specs.Open.{Opened, no_edge}
 use Rattle.rules.specs.Calls.{up_to, trimmed_prune_rule}

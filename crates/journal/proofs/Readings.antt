@@ -1,5 +1,5 @@
 -- A read of one record.
-use Rattle.std.proofs.Common.{◌≡◌, ℕ, ◌+◌, ◌<◌, ◌≤◌, min, ◌⊎◌, List, [], ◌∷◌, ◌++◌, length, take, Some, None, Ok, Err, Option, Result, sym, refl, ap, ◌∙◌, subst, inl, inr, arith}
+use Rattle.std.proofs.Common.{◌≡◌, ℕ, ◌+◌, ◌<◌, min, List, [], ◌∷◌, ◌++◌, length, take, Some, None, Ok, Err, Option, refl, ap, ◌∙◌, inl, inr, arith}
 use lib.Seq.{take-append-le}
 use Rattle.std.proofs.lemmas.Bool.{lt-ltb, cases_lt}
 use Rattle.std.proofs.lemmas.List.{take_all}
@@ -9,7 +9,7 @@ use Rattle.store.specs.Ask.{read_of}
 use Rattle.store.specs.Laws.{Lawful}
 use Rattle.store.proofs.Power.{whole_found}
 use Rattle.rules.specs.Rules.{Config, MAX, blob_of, answered, refused, stopped, Codec, Copied}
-use Rattle.rules.specs.Reads.{Copy, more, ended, bytes_of, reading}
+use Rattle.rules.specs.Reads.{Copy, bytes_of, reading}
 
 -- no blob has bytes past the largest number
 pub read_past : (v : View) (b at n : ℕ) → Lawful v → 0 < n → read_of v b (min at MAX) n ≡ read_of v b at n

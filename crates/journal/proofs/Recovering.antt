@@ -1,22 +1,21 @@
 -- The parts of opening, put together.
-use Rattle.std.proofs.Common.{◌≡◌, ℕ, ◌+◌, ◌*◌, ◌<◌, ◌≤◌, min, Bool, true, false, ltb, ◌⊎◌, List, [], ◌∷◌, reverse, Some, None, Ok, Err, Option, Result, unwrap_or, sym, refl, ap, ◌∙◌, subst, inl, inr, arith}
+use Rattle.std.proofs.Common.{◌≡◌, ℕ, ◌*◌, ◌<◌, ◌≤◌, min, true, false, ltb, [], ◌∷◌, reverse, Some, None, Ok, Err, Option, Result, unwrap_or, sym, refl, ap, ◌∙◌, subst, inl, inr, arith}
 use Rattle.std.proofs.lemmas.Bool.{lt-ltb, le-ltb}
-use Rattle.store.specs.Disk.{Blob, Blobs, Disk, View, at_or_above, numbers}
+use Rattle.store.specs.Disk.{Blobs, View, at_or_above, numbers}
 use Rattle.store.specs.Laws.{Lawful}
 use Rattle.rules.specs.Rules.{Config, MAX, Plan, answer, refuse, refuse_if, ask, clearing, Outcome, answered, refused, stopped, Follows}
 use Rattle.rules.specs.Rules as rules
-use Rattle.rules.specs.Open.{Opened, cleared, standing, if_staged, open_rule, lowest, is_below, or_max, any_over, no_edge, below, edge_at, examine_two, Walked, walk_all, weigh, overfull, overflows}
+use Rattle.rules.specs.Open.{Opened, cleared, standing, if_staged, open_rule, lowest, is_below, or_max, any_over, no_edge, below, edge_at, examine_two, Walked, walk_all, weigh}
 use Rattle.journal.specs.declared.log.Held.{Held}
-use Rattle.journal.specs.declared.fault.Corrupt.TheVariants.{Overfull}
 use Rattle.journal.specs.declared.fault.Fault.{Fault}
-use Rattle.journal.specs.declared.fault.Fault.TheVariants.{ItemPruned, OffsetOverflow, Corruption, Store}
+use Rattle.journal.specs.declared.fault.Fault.TheVariants.{ItemPruned, OffsetOverflow, Store}
 use Rattle.journal.specs.declared.fault.StoreFault.{StoreFault}
 use Rattle.journal.specs.Steps.{AllDone, Halts}
 use Rattle.store.specs.declared.cause.Cause.TheVariants.{Power}
 use Rattle.journal.specs.Faults.{Means, step_of}
 use Rattle.journal.specs.Logs.{held_of}
 use Rattle.journal.specs.Recovery.{Tells, Ends, Leads, Walks, Settles, Recovers, admitted, spanned, highest}
-use Rattle.journal.proofs.Taken.{impossible, up_and_down, follows_done, follows_stop, refuse_yes, refuse_not}
+use Rattle.journal.proofs.Taken.{up_and_down, follows_done, follows_stop, refuse_yes, refuse_not}
 use Rattle.journal.proofs.Walking.{up_store}
 use Rattle.journal.proofs.Highest.{last_none, any_over_lem, below_all}
 

@@ -1,5 +1,5 @@
 -- A clear, staged and completed.
-use Rattle.std.proofs.Common.{◌≡◌, ℕ, ◌<◌, ◌≤◌, true, leb, refl, ap, ◌∙◌, arith}
+use Rattle.std.proofs.Common.{◌≡◌, ℕ, ◌<◌, true, leb, refl, arith}
 use Rattle.std.proofs.lemmas.Bool.{le-leb, lt-leb}
 use Rattle.store.specs.Disk.{View}
 use Rattle.rules.specs.Rules.{Plan, answer, ask, calls, answered, Follows, staging, MAX}
@@ -9,7 +9,7 @@ use Rattle.journal.specs.declared.fault.StoreFault.{StoreFault}
 use Rattle.journal.specs.declared.fault.Fault.TheVariants.{SizeOverflow, Store}
 use Rattle.journal.specs.Logs.{Denies, Stops}
 use Rattle.journal.specs.Steps.{AllDone, Halts}
-use Rattle.journal.proofs.Taken.{Told, asks_done, asks_stopped, told_stops, refuse_yes, refuse_not}
+use Rattle.journal.proofs.Taken.{asks_done, asks_stopped, told_stops, refuse_yes, refuse_not}
 
 pub stage_refused : (v : View) (t : ℕ) → t ≡ MAX → Denies (stage_rule v.disk t) v SizeOverflow
 stage_refused v t e = (Over, refl, refuse_yes Over (ask (calls (staging v.disk.present t) (answer tt))) v (leb MAX t) (le-leb MAX t (omega arith)))

@@ -1,15 +1,13 @@
 -- The start, the edge and the watermark.
-use Rattle.std.proofs.Common.{◌≡◌, ℕ, suc, ◌+◌, ◌-◌, ◌*◌, ◌/◌, ◌<◌, ◌≤◌, min, Bool, true, false, leb, Some, None, Ok, Err, Option, sym, refl, ap, ◌∙◌, subst, zero-mul, arith}
+use Rattle.std.proofs.Common.{◌≡◌, ℕ, ◌+◌, ◌-◌, ◌*◌, ◌/◌, ◌<◌, min, Bool, true, false, Some, None, Ok, Err, Option, sym, refl, ap, ◌∙◌, subst, zero-mul, arith}
 use native.Mathlib.Nat.{add-div_right, div-eq_of_lt}
 use Rattle.std.proofs.lemmas.Bool.{lt-ltb, le-ltb, lt-leb, ne_eqb}
 use Rattle.rules.specs.Rules.{Config, MAX, Plan, refuse, refused, blob_of, aligned, Corruption}
 use Rattle.rules.specs.Rules.{OffsetOverflow as Over}
 use Rattle.rules.specs.Open.{Opened, start_at, edge_at, or_max, round_up, weigh, stands}
 use Rattle.journal.specs.declared.fault.Fault.{Fault}
-use Rattle.journal.specs.declared.fault.Fault.TheVariants.{OffsetOverflow}
 use Rattle.journal.specs.Faults.{Means}
 use Rattle.journal.specs.Recovery.{First, Tells}
-use Rattle.journal.proofs.Taken.{impossible}
 
 pub start_over : (c : Config) (h lo : Option ℕ) (e : Fault) (k : ℕ → Plan Opened) → First c lo (Err e) → Tells e (start_at c h lo k)
 start_over c h None e k f = absurd f

@@ -1,11 +1,11 @@
 -- The two highest blobs, examined one after the other.
-use Rattle.std.proofs.Common.{◌≡◌, ℕ, ◌+◌, ◌<◌, ◌≤◌, true, List, [], ◌∷◌, ◌++◌, reverse, Some, None, Option, sym, refl, ap, ◌∙◌, subst, append_assoc, arith}
+use Rattle.std.proofs.Common.{◌≡◌, ℕ, [], ◌∷◌, ◌++◌, reverse, Some, None, Option, sym, refl, ap, ◌∙◌, subst, append_assoc, arith}
 use Rattle.store.specs.Disk.{Blob, Blobs, View, find, change}
 use Rattle.store.specs.Laws.{Lawful}
-use Rattle.rules.specs.Rules.{Config, Plan, Outcome, Follows}
+use Rattle.rules.specs.Rules.{Config, Plan, Follows}
 use Rattle.rules.specs.Open.{Opened, below, examine, examine_two}
 use Rattle.journal.specs.declared.fault.Fault.{Fault}
-use Rattle.journal.specs.Recovery.{Ends, Leads, Stood, last_or, highest}
+use Rattle.journal.specs.Recovery.{Ends, Leads, Stood, highest}
 use Rattle.journal.proofs.Taken.{impossible}
 use Rattle.journal.proofs.Walking.{up_store, find_below}
 use Rattle.journal.proofs.Highest.{last_below, last_none, last_split, below_below, below_change, change_above, change_at, turned, turned_two}

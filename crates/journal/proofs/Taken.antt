@@ -1,16 +1,15 @@
 -- Lists of writing calls, put together, and the plans that begin with them.
-use Rattle.std.proofs.Common.{◌≡◌, ℕ, Bool, true, false, cond, ◌⊎◌, List, [], ◌∷◌, ◌++◌, map, Some, None, Ok, Err, Option, Result, sym, refl, ap, ◌∙◌, subst, inl, inr, arith}
+use Rattle.std.proofs.Common.{◌≡◌, ℕ, Bool, true, false, cond, List, [], ◌∷◌, ◌++◌, map, Ok, Err, Result, sym, refl, ap, ◌∙◌, subst, inl, inr, arith}
 use Rattle.store.specs.declared.cause.Cause.{Cause}
 use Rattle.store.specs.declared.cause.Cause.TheVariants.{Power}
 use Rattle.store.specs.Disk.{View, Op, Does, Refuses}
-use Rattle.rules.specs.Rules.{Plan, ask, call, calls, refuse_if, Fault, Outcome, refused, stopped, Follows, Wrote}
+use Rattle.rules.specs.Rules.{Plan, ask, calls, refuse_if, Fault, Outcome, refused, stopped, Follows, Wrote}
 use Rattle.rules.specs.Rules.{Step as Rule}
-use Rattle.journal.specs.declared.fault.Step.{Step}
 use Rattle.journal.specs.declared.fault.StoreFault.{StoreFault}
 use Rattle.journal.specs.Faults.{step_of, step_of_op}
 use Rattle.journal.specs.declared.fault.Fault.TheVariants.{Store}
 use Rattle.journal.specs.Logs.{Stops}
-use Rattle.journal.specs.Steps.{Took, AllDone, StopsIn, TookAll, Down, Halts, Asks}
+use Rattle.journal.specs.Steps.{Took, AllDone, StopsIn, TookAll, Halts, Asks}
 
 pub impossible : {A : Type 0} → ◌≡◌ {A = ℕ} 0 1 → A
 impossible e = absurd (omega arith)

@@ -1,7 +1,7 @@
 -- Recovery, part by part: what each part answers of the rule of opening.
-use Rattle.std.specs.Prelude.{◌≡◌, ℕ, ◌+◌, ◌*◌, ◌/◌, ◌<◌, ◌≤◌, min, Bool, true, false, cond, ◌⊎◌, List, [], ◌∷◌, reverse, length, Some, None, Ok, Err, Option, Result, ◌==◌, nat_lt}
+use Rattle.std.specs.Prelude.{◌≡◌, ℕ, ◌+◌, ◌*◌, ◌<◌, ◌≤◌, min, Bool, true, false, cond, ◌⊎◌, [], ◌∷◌, reverse, Some, None, Ok, Err, Option, Result, ◌==◌, nat_lt}
 use Rattle.std.specs.Option.{unwrap_or}
-use Rattle.store.specs.Disk.{Blob, Blobs, Disk, View, find, at_or_above, change}
+use Rattle.store.specs.Disk.{Blob, Blobs, Disk, View, change}
 use Rattle.rules.specs.Rules.{Config, MAX, Plan, answer, refuse, refuse_if, Outcome, answered, refused, Follows, ItemPruned}
 use Rattle.rules.specs.Rules.{OffsetOverflow as Over}
 use Rattle.rules.specs.Rules.{Fault as Ruled}

@@ -2,7 +2,7 @@
 use Rattle.std.proofs.Common.{◌≡◌, ℕ, zero, suc, ◌+◌, ◌-◌, ◌*◌, ◌%◌, ◌<◌, ◌≤◌, ◌⊎◌, List, ◌++◌, map, Some, None, Option, sym, refl, ap, ◌∙◌, subst, inl, inr, arith}
 use native.Mathlib.Nat.{mul-add-mod_self_right, mod_self}
 use Rattle.store.specs.Disk.{Blob, Disk, find, Op, Remove, done, without}
-use Rattle.rules.specs.Rules.{Config, aligned}
+use Rattle.rules.specs.Rules.{Config}
 use Rattle.rules.specs.Calls.{committing, count}
 use Rattle.ledger.specs.Ledger.{Ledger}
 use Rattle.ledger.proofs.Blobs.{impossible, found_listed, listed_find, find_without_other}

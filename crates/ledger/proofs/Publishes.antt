@@ -6,7 +6,7 @@ use Rattle.std.proofs.lemmas.Nat.{le-div, div_below}
 use Rattle.store.specs.Disk.{Blob, Blobs, Disk, find, numbers, change, synced, Op, Open, Sync, done, insert}
 use Rattle.store.specs.declared.keys.Keys.{Keys}
 use Rattle.rules.specs.Rules.{Config, blob_of, persist, MAX}
-use Rattle.rules.specs.Calls.{same, from, up_one_by_one, count}
+use Rattle.rules.specs.Calls.{up_one_by_one, count}
 use Rattle.ledger.specs.Ledger.{Ledger}
 use Rattle.ledger.proofs.Blobs.{find_change, found_listed, find_insert_other, listed_find, numbers_insert_top, insert_here}
 use Rattle.ledger.proofs.Invariant.{first_room, Standing, Rows, moved, SafeTo}

@@ -3,7 +3,7 @@ use Rattle.std.proofs.Common.{◌≡◌, ℕ, ◌+◌, ◌*◌, ◌<◌, ◌≤�
 use Rattle.std.proofs.lemmas.Bool.{cases_lt, le-ltb, not_from_true}
 use Rattle.store.specs.Disk.{Blob, Disk, find, numbers, Open, Sync, insert, done_all}
 use Rattle.rules.specs.Rules.{Config, blob_of, persist, MAX, Plan, answer, calls, refuse_if, ItemPruned, Layout}
-use Rattle.rules.specs.Calls.{Running, same, from, truncating, up_one_by_one, truncate_rule, publish_rule, truncated}
+use Rattle.rules.specs.Calls.{Running, same, truncating, up_one_by_one, truncate_rule, publish_rule, truncated}
 use Rattle.rules.specs.Open.{Opened, no_edge}
 use Rattle.ledger.specs.Ledger.{Ledger}
 use Rattle.ledger.proofs.Blobs.{impossible}

@@ -4,7 +4,7 @@ use Rattle.std.proofs.lemmas.Bool.{cond-true, cond-false, cond_both, lt-ltb, le-
 use Rattle.std.proofs.lemmas.Nat.{div_below}
 use Rattle.store.specs.Disk.{Disk, View, Op, Remove}
 use Rattle.rules.specs.Rules.{Config, blob_of, persist, Plan, answer, calls}
-use Rattle.rules.specs.Calls.{Running, committing, from, commit_rule, sync_rule, prune_rule, count}
+use Rattle.rules.specs.Calls.{Running, committing, commit_rule, sync_rule, prune_rule, count}
 use Rattle.rules.specs.Open.{Opened}
 use Rattle.ledger.specs.History.{Prune}
 use Rattle.ledger.specs.Ledger.{Ledger, entry}

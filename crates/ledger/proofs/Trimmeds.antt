@@ -6,7 +6,7 @@ use Rattle.std.proofs.lemmas.Bool.{cases_lt, eqb-false}
 use Rattle.store.specs.Disk.{Blob, Blobs, Disk, find, numbers, synced, Op, Open, Append, Sync, Remove, done, insert}
 use Rattle.store.specs.declared.keys.Keys.{Keys}
 use Rattle.rules.specs.Rules.{Config, blob_of, aligned, persist, MAX}
-use Rattle.rules.specs.Calls.{same, has, from, up_to, open_if, count}
+use Rattle.rules.specs.Calls.{has, up_to, open_if, count}
 use Rattle.ledger.specs.Ledger.{Ledger, appended}
 use Rattle.ledger.proofs.Blobs.{impossible, find_change, found_listed, find_insert_other, listed_find, insert_here}
 use Rattle.ledger.proofs.Invariant.{blob_first, blob_is, first_room, stands, moved}

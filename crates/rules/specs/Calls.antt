@@ -1,5 +1,5 @@
 -- What the calls of a log do, once it is opened.
-use Rattle.std.specs.Prelude.{ℕ, zero, suc, ◌+◌, ◌-◌, ◌*◌, ◌/◌, min, Bool, true, false, cond, not, ◌&&◌, ◌||◌, List, [], ◌∷◌, ◌++◌, map, reverse, length, Some, None, Option, ◌==◌, nat_le, nat_lt}
+use Rattle.std.specs.Prelude.{ℕ, zero, suc, ◌+◌, ◌-◌, ◌*◌, min, Bool, true, false, cond, not, ◌&&◌, ◌||◌, List, [], ◌∷◌, ◌++◌, map, reverse, length, Some, None, Option, ◌==◌, nat_le, nat_lt}
 use Rattle.store.specs.Disk.{Blob, Disk, find, numbers, insert, done_all, Op, Open, Append, Truncate, Sync, Remove}
 use Rattle.store.specs.declared.keys.Keys.{Keys}
 use Rattle.rules.specs.Rules.{Config, MAX, blob_of, first_in, aligned, Plan, answer, ask, calls, refuse_if, ItemPruned, SizeOverflow, EmptyAppend, Layout, persist, staging, clearing}

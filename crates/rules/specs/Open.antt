@@ -1,5 +1,5 @@
 -- Opening: which records a store is found to hold.
-use Rattle.std.specs.Prelude.{ℕ, ◌+◌, ◌-◌, ◌*◌, ◌/◌, ◌%◌, min, max, Bool, true, false, cond, not, ◌&&◌, ◌||◌, List, [], ◌∷◌, ◌++◌, reverse, length, is_some, Some, None, Option, ◌==◌, nat_le, nat_lt}
+use Rattle.std.specs.Prelude.{ℕ, ◌+◌, ◌-◌, ◌*◌, ◌/◌, min, Bool, true, false, cond, not, ◌&&◌, ◌||◌, [], ◌∷◌, reverse, length, is_some, Some, None, Option, ◌==◌, nat_le, nat_lt}
 use Rattle.std.specs.Option.{unwrap_or}
 use Rattle.store.specs.Disk.{Blob, Blobs, Disk, numbers, cut_to, Truncate}
 use Rattle.rules.specs.Rules.{Config, MAX, blob_of, first_in, aligned, Plan, answer, refuse, ask, call, calls, refuse_if, ItemPruned, OffsetOverflow, Corruption, clearing}

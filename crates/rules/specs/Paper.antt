@@ -1,6 +1,6 @@
 -- The logs on paper: worked examples of the rules, at four records of two bytes to a blob.
-use Rattle.std.specs.Prelude.{◌≡◌, ℕ, List, [], ◌∷◌, replicate, Some, None, Option}
-use Rattle.store.specs.Disk.{Blob, Blobs, Disk, no_keys, done_all, Op, Open, Append, Sync}
+use Rattle.std.specs.Prelude.{◌≡◌, ℕ, [], ◌∷◌, replicate, Some, None, Option}
+use Rattle.store.specs.Disk.{Blob, Blobs, Disk, no_keys, done_all, Open, Append, Sync}
 use Rattle.store.specs.declared.keys.Keys.{Keys}
 use Rattle.rules.specs.Rules.{Config, Fault, ItemPruned, Corruption, Plan, answer, refuse, ask, call, made}
 use Rattle.rules.specs.Open.{Opened, open_rule}

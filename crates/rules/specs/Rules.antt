@@ -1,10 +1,10 @@
 -- Positions, keys, and what the rules of the log are written in: plans.
-use Rattle.std.specs.Prelude.{◌≡◌, ℕ, ◌+◌, ◌-◌, ◌*◌, ◌/◌, ◌%◌, min, max, Bool, true, false, cond, ◌||◌, ◌⊎◌, List, [], ◌∷◌, ◌++◌, map, Some, None, Option, ◌==◌, nat_lt}
+use Rattle.std.specs.Prelude.{◌≡◌, ℕ, ◌*◌, ◌/◌, ◌%◌, max, Bool, true, false, cond, ◌||◌, ◌⊎◌, List, [], ◌∷◌, ◌++◌, map, Some, None, Option, ◌==◌, nat_lt}
 use Rattle.store.specs.declared.cause.Cause.{Cause}
 use Rattle.store.specs.declared.cause.Cause.TheVariants.{Power}
 use Rattle.store.specs.declared.keys.Key.{Key}
 use Rattle.store.specs.declared.keys.Key.TheVariants.{Hint, Target, Watermark}
-use Rattle.store.specs.Disk.{Disk, View, Does, Refuses, Op, Open, Remove, Put, DropKey, SyncKeys}
+use Rattle.store.specs.Disk.{View, Does, Refuses, Op, Open, Remove, Put, DropKey, SyncKeys}
 use Rattle.store.specs.declared.keys.Keys.{Keys}
 
 -- records to a blob, the page, a record's bytes

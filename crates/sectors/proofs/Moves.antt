@@ -1,11 +1,11 @@
 -- Sectors that go from the free chain to a chain, or back.
-use Rattle.std.proofs.Common.{◌≡◌, ℕ, zero, suc, ◌+◌, ◌-◌, ◌*◌, ◌/◌, ◌≤◌, min, List, [], ◌∷◌, ◌++◌, length, take, sym, refl, ap, ◌∙◌, subst, arith}
+use Rattle.std.proofs.Common.{◌≡◌, ℕ, zero, suc, ◌+◌, ◌*◌, ◌/◌, ◌≤◌, min, List, [], ◌∷◌, ◌++◌, length, take, sym, refl, ap, ◌∙◌, subst, arith}
 use Rattle.std.specs.List.{flat_map}
 use Rattle.std.proofs.lemmas.List.{take_at, drop_at}
 use Rattle.store.specs.Occurs.{occurs}
 use Rattle.store.proofs.Occurs.{occurs_append, occurs_self}
 use Rattle.sectors.specs.declared.chain.Chain.{Chain}
-use Rattle.sectors.specs.Sectors.{next_of, payload, sectors, once, Apart}
+use Rattle.sectors.specs.Sectors.{next_of, payload, once, Apart}
 use Rattle.sectors.specs.Chains.{list, joint, Stands, Both, Joined, Split, Moved, uses}
 use Rattle.sectors.proofs.Paths.{chain_same, last_same, apart_part, at_most_once, length_sectors}
 use Rattle.sectors.proofs.Pieces.{Sixties, sixties, joined_same, take_add}

@@ -1,5 +1,5 @@
 -- What the writing calls make of one row's blob, of its room, and of the other blobs.
-use Rattle.std.proofs.Common.{◌≡◌, ℕ, ◌+◌, ◌-◌, ◌*◌, ◌<◌, ◌≤◌, min, true, false, leb, ◌⊎◌, List, length, take, drop, set, Some, None, vec_items, Option, sym, refl, ap, ◌∙◌, subst, inl, inr, arith, length-append}
+use Rattle.std.proofs.Common.{◌≡◌, ℕ, ◌+◌, ◌-◌, ◌*◌, ◌<◌, ◌≤◌, true, false, leb, ◌⊎◌, List, length, drop, set, Some, vec_items, Option, refl, ap, ◌∙◌, inl, inr, arith, length-append}
 use Rattle.std.proofs.lemmas.List.{length-take-le, take-take}
 use Rattle.std.proofs.lemmas.Bool.{lt-leb}
 use Rattle.store.specs.Disk.{Blob, Blobs, Disk, find, change, cut_to, grown}

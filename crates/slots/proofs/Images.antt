@@ -1,5 +1,5 @@
 -- A blob that is set to given contents.
-use Rattle.std.proofs.Common.{◌≡◌, ℕ, zero, suc, ◌+◌, ◌-◌, ◌*◌, ◌<◌, ◌≤◌, Bool, true, false, cond, eqb, ltb, List, [], ◌∷◌, map, length, get_or, take, drop, Some, None, vec_items, vec_len, Option, sym, refl, ap, ◌∙◌, arith, length-take}
+use Rattle.std.proofs.Common.{◌≡◌, ℕ, suc, ◌+◌, ◌*◌, ◌<◌, ◌≤◌, Bool, true, false, cond, eqb, ltb, List, [], ◌∷◌, map, length, get_or, take, drop, Some, None, vec_items, Option, refl, ap, ◌∙◌, arith, length-take}
 use Rattle.std.proofs.lemmas.Bool.{le-ltb}
 use Rattle.store.specs.declared.cause.Cause.TheVariants.{NoRoom}
 use Rattle.store.specs.Built.{bytes_there, unfit}

@@ -1,8 +1,7 @@
 -- What a restart leaves of one blob.
-use Rattle.std.proofs.Common.{◌≡◌, ℕ, ◌+◌, ◌-◌, ◌*◌, ◌<◌, ◌≤◌, min, List, ◌++◌, length, get_or, take, drop, set, replicate, vec_items, sym, refl, ap, ◌∙◌, arith}
+use Rattle.std.proofs.Common.{◌≡◌, ℕ, ◌+◌, ◌-◌, ◌*◌, ◌<◌, ◌≤◌, List, ◌++◌, length, get_or, take, drop, set, replicate, vec_items, sym, refl, ap, ◌∙◌, arith}
 use lib.ListN.{length-replicate}
 use Rattle.std.proofs.lemmas.List.{take-take}
-use Rattle.store.specs.declared.restart.Past.{Past}
 use Rattle.store.specs.declared.restart.Past.TheVariants.{Cut, Fill}
 use Rattle.store.specs.declared.restart.Restart.{Restart}
 use Rattle.store.specs.Disk.{Blob, blank}

@@ -1,9 +1,8 @@
 -- The parts of the memory that rows stand for, and the lookup by number.
-use Rattle.std.specs.Prelude.{◌≡◌, ℕ, ◌+◌, ◌-◌, ◌*◌, ◌/◌, ◌^◌, ◌<◌, ◌≤◌, true, List, length, take, drop, Some, None, Ok, Err, vec_items, vec_len, Option, ◌≢◌, slice_index, refl}
+use Rattle.std.specs.Prelude.{◌≡◌, ℕ, ◌+◌, ◌*◌, ◌<◌, ◌≤◌, true, length, take, drop, Some, None, Ok, vec_items, vec_len, Option, ◌≢◌, slice_index, refl}
 use Rattle.std.proofs.Common.{arith, sym, ap, ◌∙◌, inl, inr}
 use Rattle.std.proofs.lemmas.List.{get_or-map, length-map}
 use Rattle.std.proofs.lemmas.Bool.{cases_order, le-ltb}
-use Rattle.store.specs.Disk.{find}
 use Rattle.store.specs.Ask.{read_of}
 use Rattle.octets.proofs.Writes.{length_part}
 use Rattle.catalog.specs.declared.row.Row.{Row}
@@ -13,7 +12,7 @@ use Rattle.catalog.specs.Found as table
 use Rattle.catalog.proofs.Lookup.{many, at_row}
 use Rattle.catalog.specs.Seen.{Stands}
 use Rattle.slots.specs.declared.parts.Slots.{Slots}
-use Rattle.slots.specs.Seen.{content_of, blob_in, blobs, seen}
+use Rattle.slots.specs.Seen.{content_of, blob_in, seen}
 use Rattle.slots.specs.Found.{Held, InUse, FoundAt, row_at}
 use Rattle.slots.specs.Shares.{part_below, part_twice}
 use Rattle.slots.specs.Memory.{part_in, bytes_of}

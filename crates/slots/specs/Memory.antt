@@ -1,6 +1,6 @@
 -- The parts of the memory.
-use Rattle.std.specs.Prelude.{◌≡◌, ℕ, zero, suc, ◌+◌, ◌-◌, ◌*◌, ◌/◌, ◌<◌, ◌≤◌, ◌⊎◌, List, length, take, drop, ◌≢◌, refl}
-use Rattle.std.proofs.Common.{arith, add-mul, one-mul, mul-le-mul_right, sym, ap, ◌∙◌, inl, inr}
+use Rattle.std.specs.Prelude.{◌≡◌, ℕ, ◌+◌, ◌-◌, ◌*◌, ◌/◌, ◌<◌, ◌≤◌, ◌⊎◌, List, take, drop, ◌≢◌}
+use Rattle.std.proofs.Common.{arith, add-mul, one-mul, mul-le-mul_right, ap, ◌∙◌, inl, inr}
 use Rattle.std.proofs.lemmas.List.{drop-take, take-take, drop-drop}
 use Rattle.std.proofs.lemmas.Bool.{cases_order}
 

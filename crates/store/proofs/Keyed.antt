@@ -1,5 +1,5 @@
 -- The keys fit 64 bits, whatever is put or dropped.
-use Rattle.std.proofs.Common.{ℕ, ◌^◌, ◌<◌, Some, None, Option, unwrap_or, refl, lit<}
+use Rattle.std.proofs.Common.{ℕ, ◌^◌, ◌<◌, Option, unwrap_or, lit<}
 use Rattle.store.specs.declared.keys.Key.{Key}
 use Rattle.store.specs.declared.keys.Key.TheVariants.{Hint, Target, Watermark}
 use Rattle.store.specs.declared.keys.Keys.{Keys}

@@ -1,11 +1,10 @@
 -- Every definition of specs/Disk.antt that walks the blobs, by the place of the number that it looks for.
 -- A store finds the place i once (Sought), and each lemma turns the walk into an edit at i.
-use Rattle.std.proofs.Common.{◌≡◌, ℕ, zero, suc, ◌+◌, ◌-◌, ◌<◌, ◌≤◌, Bool, true, false, cond, eqb, ltb, List, [], ◌∷◌, ◌++◌, length, get_or, take, drop, set, Some, None, Option, sym, refl, ap, ◌∙◌, inl, inr, arith}
+use Rattle.std.proofs.Common.{◌≡◌, ℕ, zero, suc, ◌<◌, ◌≤◌, Bool, true, false, eqb, ltb, [], ◌∷◌, length, get_or, set, Some, None, Option, sym, refl, ap, inl, inr, arith}
 use Rattle.std.proofs.lemmas.Bool.{eq-eqb, ne_eqb, lt-ltb, le-ltb, cases_order}
 use Rattle.std.specs.List.{insert as inserted, remove}
-use Rattle.store.specs.Disk.{Blob, Blobs, blank, find, numbers, at_or_above, at_or_below, at_or_below_or, change, insert, without}
+use Rattle.store.specs.Disk.{Blob, Blobs, blank, find, numbers, at_or_above, at_or_below_or, change, insert, without}
 use Rattle.store.specs.Laws.{Rising}
-use Rattle.store.specs.Place.{Sought}
 
 pub length_numbers : (xs : Blobs) → length (numbers xs) ≡ length xs
 length_numbers [] = refl

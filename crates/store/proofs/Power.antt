@@ -1,8 +1,7 @@
 -- What holds when the power goes before a call has changed anything, for every writing call.
-use Rattle.std.proofs.Common.{◌≡◌, ℕ, ◌≤◌, Bool, true, false, cond, eqb, ◌⊎◌, List, [], ◌∷◌, Some, None, Ok, Err, Option, Result, sym, refl, ap, ◌∙◌, inl, inr, arith}
-use Rattle.store.specs.declared.cause.Cause.{Cause}
+use Rattle.std.proofs.Common.{◌≡◌, ℕ, Bool, true, false, eqb, [], ◌∷◌, Some, sym, refl, ap, inl, inr, arith}
 use Rattle.store.specs.declared.cause.Cause.TheVariants.{Power}
-use Rattle.store.specs.Disk.{Blob, Blobs, Disk, View, Op, Open, Append, Truncate, Sync, Remove, Put, DropKey, SyncKeys, Weaker, Weakened, Counted, Cut, Refuses, refuses, find}
+use Rattle.store.specs.Disk.{Blob, Blobs, Disk, View, Op, Open, Append, Truncate, Sync, Remove, Put, DropKey, SyncKeys, Weaker, Weakened, Counted, Refuses, find}
 use Rattle.store.specs.Laws.{Whole, AllWhole}
 use Rattle.store.specs.Built.{stopped}
 

@@ -1,13 +1,13 @@
 -- The restart of a built store is a restart.
-use Rattle.std.proofs.Common.{◌≡◌, ℕ, ◌+◌, ◌-◌, ◌≤◌, min, true, List, [], ◌∷◌, ◌++◌, map, length, take, replicate, sym, refl, ap, ◌∙◌, arith, length-append, length-take}
+use Rattle.std.proofs.Common.{◌≡◌, ℕ, ◌-◌, ◌≤◌, true, List, [], ◌∷◌, map, length, take, replicate, refl, ap, ◌∙◌, arith, length-append}
 use lib.ListN.{length-replicate}
 use Rattle.std.proofs.lemmas.List.{take-take, take_at, length-take-le}
 use Rattle.store.specs.declared.restart.Past.{Past}
 use Rattle.store.specs.declared.restart.Past.TheVariants.{Cut, Fill}
 use Rattle.store.specs.declared.restart.Restart.{Restart}
-use Rattle.store.specs.Disk.{Blob, Blobs, View, Weaker, Weakened, Restarted, settled, synced}
+use Rattle.store.specs.Disk.{Blob, Blobs, View, Weaker, Weakened, Restarted, settled}
 use Rattle.store.specs.Laws.{Whole, AllWhole}
-use Rattle.store.specs.Left.{sound_left, bytes_left, left_of, left_entry, left}
+use Rattle.store.specs.Left.{sound_left, bytes_left, left_entry, left}
 
 -- the blob before safe is set to sound
 abbrev weak_of : Restart → Blob → Blob

@@ -1,5 +1,5 @@
 -- The questions: what each answers, as one value. They change nothing.
-use Rattle.std.specs.Prelude.{◌≡◌, ℕ, ◌+◌, min, cond, List, [], ◌∷◌, length, take, drop, Some, None, Ok, Err, Option, Result, nat_lt}
+use Rattle.std.specs.Prelude.{◌≡◌, ℕ, ◌+◌, min, cond, List, length, take, drop, Some, None, Ok, Err, Option, Result, nat_lt}
 use Rattle.store.specs.declared.cause.Cause.{Cause}
 use Rattle.store.specs.declared.cause.Cause.TheVariants.{Power, Missing, Range, Torn}
 use Rattle.store.specs.declared.keys.Keys.{Keys}

@@ -1,9 +1,9 @@
 -- What a built store adds to a store: it is told how many writing calls succeed before Power, and it can be set up with given contents.
-use Rattle.std.specs.Prelude.{◌≡◌, ℕ, ◌+◌, ◌<◌, Bool, false, cond, ◌||◌, length, Some, None, Ok, Err, Option, Result, nat_lt}
+use Rattle.std.specs.Prelude.{◌≡◌, ℕ, ◌+◌, ◌<◌, false, cond, ◌||◌, length, Some, None, Ok, Err, Option, Result, nat_lt}
 use Rattle.store.specs.declared.cause.Cause.{Cause}
 use Rattle.store.specs.declared.cause.Cause.TheVariants.{Power, Range, NoRoom}
 use Rattle.store.specs.declared.keys.Key.{Key}
-use Rattle.store.specs.Disk.{Blob, Blobs, Disk, View, find, change, insert, keyed, refuses_up, Open}
+use Rattle.store.specs.Disk.{Blob, Blobs, View, find, change, insert, keyed, refuses_up, Open}
 
 -- the same store, down
 abbrev pub stopped : View → View

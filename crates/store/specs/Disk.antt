@@ -2,7 +2,7 @@
 -- What each writing call does, refuses and may leave when the power goes.
 use Rattle.std.specs.Prelude.{◌≡◌, ℕ, ◌+◌, ◌-◌, ◌≤◌, min, Bool, true, false, cond, ◌⊎◌, List, [], ◌∷◌, ◌++◌, length, take, is_some, Some, None, Ok, Err, Option, Result, ◌==◌, nat_le, nat_lt}
 use Rattle.store.specs.declared.cause.Cause.{Cause}
-use Rattle.store.specs.declared.cause.Cause.TheVariants.{Power, Missing, Range, Torn, NoRoom}
+use Rattle.store.specs.declared.cause.Cause.TheVariants.{Power, Missing, Range, NoRoom}
 use Rattle.store.specs.declared.keys.Key.{Key}
 use Rattle.store.specs.declared.keys.Keys.{Keys}
 use Rattle.store.specs.declared.keys.Key.TheVariants.{Hint, Target, Watermark}

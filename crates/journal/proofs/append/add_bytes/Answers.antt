@@ -1,10 +1,8 @@
-use Rattle.std.proofs.Common.{◌≡◌, ℕ, ◌+◌, cond, [], ◌∷◌, Result, sym, ap, subst}
-use Rattle.std.proofs.lemmas.Result.{err_from_is_err_and}
-use Rattle.store.specs.Disk.{View, Append, Sync, Does, Refuses}
-use Rattle.rules.specs.Rules.{aligned, blob_of}
+use Rattle.std.proofs.Common.{ℕ, ◌+◌, cond, [], ◌∷◌, subst}
+use Rattle.store.specs.Disk.{Append, Sync}
+use Rattle.rules.specs.Rules.{aligned}
 use Rattle.journal.specs.Configs.{ruled}
 use Rattle.journal.specs.Steps.{TookAll}
-use Rattle.journal.specs.Trimming.{adding}
 use Rattle.journal.proofs.Taken.{next}
 use Rattle.journal.proofs.append.add_bytes.Goals as goal
 

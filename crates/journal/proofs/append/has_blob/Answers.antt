@@ -1,4 +1,4 @@
-use Rattle.std.proofs.Common.{◌≡◌, Ok, Err, sym, refl, ap, ◌∙◌}
+use Rattle.std.proofs.Common.{Ok, sym, ◌∙◌}
 use Rattle.store.specs.Disk.{at_or_above}
 use Rattle.journal.proofs.Taken.{answered_up, answered_it}
 use Rattle.journal.proofs.Walking.{up_all}

@@ -1,6 +1,6 @@
-use Rattle.std.proofs.Common.{◌≡◌, ℕ, Result, sym, ap, subst}
+use Rattle.std.proofs.Common.{ℕ, subst}
 use Rattle.std.proofs.lemmas.Result.{err_from_is_err_and}
-use Rattle.store.specs.Disk.{View, numbers}
+use Rattle.store.specs.Disk.{numbers}
 use Rattle.rules.specs.Rules.{blob_of}
 use Rattle.rules.specs.Calls.{has, open_if}
 use Rattle.journal.specs.Configs.{ruled}

@@ -1,5 +1,5 @@
-use Rattle.std.proofs.Common.{◌≡◌, ℕ, List, ◌++◌, Result, sym, refl, ap, ◌∙◌, subst}
-use Rattle.store.specs.Disk.{View, numbers}
+use Rattle.std.proofs.Common.{◌≡◌, ℕ, List, ◌++◌, sym, ◌∙◌, subst}
+use Rattle.store.specs.Disk.{numbers}
 use Rattle.rules.specs.Rules.{blob_of}
 use Rattle.rules.specs.Calls.{has, open_if}
 use Rattle.record.proofs.Lent.{written_to}

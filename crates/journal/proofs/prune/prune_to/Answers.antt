@@ -1,5 +1,5 @@
-use Rattle.std.proofs.Common.{◌≡◌, ℕ, List, ◌∷◌, ◌++◌, map, sym, refl, ap, ◌∙◌, subst}
-use Rattle.store.specs.Disk.{Blobs, Disk, Open, Remove, Sync, insert, numbers}
+use Rattle.std.proofs.Common.{ℕ, List, ◌++◌, map, subst}
+use Rattle.store.specs.Disk.{Disk, Open, Remove, Sync, insert, numbers}
 use Rattle.rules.specs.Calls.{up_to}
 use Rattle.journal.specs.Steps.{TookAll}
 use Rattle.journal.proofs.Taken.{next}

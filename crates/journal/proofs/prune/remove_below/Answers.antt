@@ -1,6 +1,6 @@
-use Rattle.std.proofs.Common.{◌≡◌, ℕ, ◌+◌, ◌<◌, ◌≤◌, List, [], ◌∷◌, map, length, Ok, Err, sym, refl, ap, ◌∙◌, subst, arith}
+use Rattle.std.proofs.Common.{◌∷◌, length, Ok, Err, sym, ap, ◌∙◌, arith}
 use Rattle.std.proofs.lemmas.Result.{err_from_is_err_and}
-use Rattle.store.specs.Disk.{View, Disk, Blobs, Remove, numbers, at_or_above, without}
+use Rattle.store.specs.Disk.{Disk, Remove, numbers, at_or_above, without}
 use Rattle.rules.specs.Calls.{up_to}
 use Rattle.journal.proofs.Taken.{turn_none, turn_done, turn_stop, answered_up, answered_it}
 use Rattle.journal.proofs.Walking.{up_all}

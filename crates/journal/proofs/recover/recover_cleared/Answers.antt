@@ -1,6 +1,5 @@
-use Rattle.std.proofs.Common.{◌≡◌, ℕ, ◌<◌, ◌≤◌, sym, refl, ap, ◌∙◌, arith}
+use Rattle.std.proofs.Common.{◌<◌, ◌≤◌, arith}
 use Rattle.std.proofs.lemmas.Result.{err_from_is_err_and}
-use Rattle.rules.specs.Rules.{MAX}
 use Rattle.rules.specs.Open.{or_max}
 use Rattle.journal.specs.Configs.{ruled}
 use Rattle.journal.proofs.Recovering.{cleared_low, cleared_done, cleared_stops}

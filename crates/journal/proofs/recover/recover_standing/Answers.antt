@@ -1,15 +1,10 @@
-use Rattle.std.proofs.Common.{◌≡◌, ℕ, ◌+◌, ◌*◌, ◌<◌, ◌≤◌, true, false, Some, None, Ok, Err, Option, Result, sym, refl, ap, ◌∙◌, subst, arith}
+use Rattle.std.proofs.Common.{ℕ, sym, subst}
 use Rattle.std.proofs.lemmas.Result.{err_from_is_err_and}
-use Rattle.std.proofs.lemmas.Bool.{lt-ltb, le-ltb}
-use Rattle.store.specs.Disk.{View, Blobs, at_or_above}
-use Rattle.rules.specs.Rules.{Plan, Config, MAX}
-use Rattle.rules.specs.Open.{Opened, lowest, or_max, below, edge_at, walk_all, weigh, Walked}
+use Rattle.rules.specs.Rules.{Plan}
+use Rattle.rules.specs.Open.{Opened, lowest}
 use Rattle.journal.specs.Configs.{ruled}
-use Rattle.journal.specs.Logs.{edge_of}
-use Rattle.journal.specs.Recovery.{Starts, Settles, Walks, Recovers, admitted, spanned}
-use Rattle.journal.proofs.Taken.{answered_it}
-use Rattle.journal.proofs.Walking.{never_down}
-use Rattle.journal.proofs.Recovering.{lowest_is, tells_ends, admit_low, admit_over, admit_ok, none_over, over_is, weigh_wrong, span_stops, span_ends}
+use Rattle.journal.specs.Recovery.{Recovers, admitted, spanned}
+use Rattle.journal.proofs.Recovering.{tells_ends}
 use Rattle.rules.specs.Open.{start_at}
 use Rattle.journal.proofs.recover.recover_standing.Goals as goal
 

@@ -1,6 +1,6 @@
-use Rattle.std.proofs.Common.{◌≡◌, ℕ, ◌<◌, ◌≤◌, Bool, true, false, sym, refl, ap, ◌∙◌, subst, arith}
+use Rattle.std.proofs.Common.{◌≡◌, ℕ, ◌<◌, ◌≤◌, Bool, sym, ap, ◌∙◌, subst, arith}
 use Rattle.std.proofs.lemmas.Result.{err_from_is_err_and}
-use Rattle.store.specs.Disk.{View, Does, Refuses, Truncate}
+use Rattle.store.specs.Disk.{Does, Refuses, Truncate}
 use Rattle.rules.specs.Rules.{blob_of}
 use Rattle.rules.specs.Open.{acknowledged, valid}
 use Rattle.journal.specs.Configs.{ruled}

@@ -1,7 +1,6 @@
-use Rattle.std.proofs.Common.{◌≡◌, ℕ, true, Some, None, Ok, Err, Option, Result, sym, refl, ap, ◌∙◌, subst}
+use Rattle.std.proofs.Common.{ℕ, Ok, Err, Option, Result, sym, ◌∙◌}
 use Rattle.std.proofs.lemmas.Result.{err_from_is_err_and}
-use Rattle.store.specs.Disk.{Blob, View, find}
-use Rattle.store.specs.declared.cause.Cause.{Cause}
+use Rattle.store.specs.Disk.{View}
 use Rattle.rules.specs.Rules.{Config}
 use Rattle.journal.specs.Configs.{ruled}
 use Rattle.journal.specs.Logs.{edge_of}

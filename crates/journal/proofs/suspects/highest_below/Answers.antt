@@ -1,8 +1,8 @@
-use Rattle.std.proofs.Common.{◌≡◌, ℕ, ◌+◌, Some, None, Option, sym, refl, ap, ◌∙◌, arith}
+use Rattle.std.proofs.Common.{◌≡◌, ℕ, ◌+◌, Some, None, Option, sym, ap, ◌∙◌, arith}
 use Rattle.store.specs.Disk.{at_or_below}
 use Rattle.rules.specs.Open.{below}
 use Rattle.journal.specs.Logs.{edge_of}
-use Rattle.journal.specs.Recovery.{highest, last_or}
+use Rattle.journal.specs.Recovery.{highest}
 use Rattle.journal.proofs.Taken.{answered_it}
 use Rattle.journal.proofs.Highest.{below_last, below_zero}
 use Rattle.journal.proofs.suspects.highest_below.Goals as goal

@@ -1,6 +1,6 @@
-use Rattle.std.proofs.Common.{◌≡◌, ℕ, ◌+◌, ◌≤◌, List, [], ◌∷◌, map, Ok, Err, Result, sym, refl, ap, ◌∙◌, subst, arith}
+use Rattle.std.proofs.Common.{◌≡◌, ℕ, ◌+◌, List, ◌∷◌, map, Ok, Err, sym, ap, ◌∙◌, subst, arith}
 use Rattle.std.proofs.lemmas.Result.{err_from_is_err_and}
-use Rattle.store.specs.Disk.{View, Disk, Sync, numbers, at_or_above, synced}
+use Rattle.store.specs.Disk.{Disk, Sync, numbers, at_or_above, synced}
 use Rattle.rules.specs.Calls.{from}
 use Rattle.journal.specs.Steps.{Asks}
 use Rattle.journal.proofs.Taken.{turn_none, turn_done, turn_stop, answered_up, answered_it}

@@ -1,4 +1,4 @@
-use Rattle.std.proofs.Common.{◌≡◌, ℕ, ◌+◌, is_some, Option, sym, refl, ap, ◌∙◌, subst, arith}
+use Rattle.std.proofs.Common.{ℕ, ◌+◌, is_some, sym, ap, ◌∙◌, arith}
 use Rattle.rules.specs.Open.{below}
 use Rattle.journal.specs.Logs.{edge_of}
 use Rattle.journal.proofs.Walking.{more_is, nothing_past}

@@ -1,6 +1,5 @@
-use Rattle.std.proofs.Common.{◌≡◌, ℕ, ◌<◌, ◌≤◌, Some, None, Ok, Err, Option, sym, refl, ap, ◌∙◌, subst, arith}
+use Rattle.std.proofs.Common.{sym, ap, ◌∙◌, arith}
 use Rattle.store.specs.Disk.{at_or_above}
-use Rattle.rules.specs.Open.{below}
 use Rattle.journal.specs.Logs.{edge_of}
 use Rattle.journal.proofs.Taken.{answered_it}
 use Rattle.journal.proofs.Walking.{next_none, next_some, next_aside}

@@ -1,4 +1,4 @@
-use Rattle.std.proofs.Common.{◌≡◌, sym, refl, ap, ◌∙◌, subst}
+use Rattle.std.proofs.Common.{sym, ◌∙◌, subst}
 use Rattle.rules.specs.Open.{below, Walked}
 use Rattle.journal.specs.Configs.{ruled}
 use Rattle.journal.specs.Logs.{edge_of}

@@ -1,6 +1,6 @@
-use Rattle.std.proofs.Common.{◌≡◌, ℕ, ◌+◌, false, Some, None, Ok, Err, Option, sym, refl, ap, ◌∙◌, subst, arith}
+use Rattle.std.proofs.Common.{◌≡◌, ℕ, ◌+◌, Some, Err, sym, ap, ◌∙◌, subst, arith}
 use Rattle.std.proofs.lemmas.Result.{err_from_is_err_and}
-use Rattle.rules.specs.Open.{below, walk, stands, Walked}
+use Rattle.rules.specs.Open.{below, stands, Walked}
 use Rattle.journal.specs.Configs.{ruled}
 use Rattle.journal.specs.Logs.{edge_of}
 use Rattle.journal.specs.Recovery.{rest, Walks}

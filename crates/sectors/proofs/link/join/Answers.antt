@@ -1,4 +1,4 @@
-use Rattle.std.proofs.Common.{◌+◌, ◌≤◌, ◌++◌, sym, refl, subst, arith}
+use Rattle.std.proofs.Common.{◌≤◌, ◌++◌, sym, refl, subst, arith}
 use Rattle.store.specs.Occurs.{occurs}
 use Rattle.store.proofs.Occurs.{occurs_append}
 use Rattle.sectors.specs.Sectors.{next_of}

@@ -1,4 +1,4 @@
-use Rattle.std.proofs.Common.{set, refl, ap, ◌∙◌, inl, arith, rules}
+use Rattle.std.proofs.Common.{set, refl, ap, ◌∙◌, arith, rules}
 use Rattle.store.specs.Disk.{Sync, synced}
 use Rattle.catalog.specs.Rows.{synced_row}
 use Rattle.catalog.specs.Blobs.{row_at}

@@ -1,6 +1,6 @@
 use Rattle.std.proofs.Common.{false, refl}
 use Rattle.store.specs.Disk.{numbers}
-use Rattle.rules.specs.Rules.{Plan, answer, answered, clearing}
+use Rattle.rules.specs.Rules.{answer, answered, clearing}
 use Rattle.rules.specs.Open.{Opened, no_edge}
 use Rattle.journal.specs.Configs.{ruled}
 use Rattle.journal.proofs.Taken.{asks_done, asks_stopped, told_stops}
