@@ -1,7 +1,7 @@
 // The power goes at every writing call of a script.
+use crate::differs::check;
 use chains::chains::Chains;
 use slots::parts::Slots;
-use std::process::Abort;
 use std::test::Fail;
 use store::cause::Cause;
 use store::keys::Key;
@@ -31,24 +31,24 @@ fn expected(calls: u64) -> (Result<u64, Cause>, Option<u64>) {
     }
 }
 
-fn cut_at<S: Store>(rt: &impl Abort, s: &mut S, calls: u64) {
-    assert!(rt; (script(s) == Err(Cause::Power)) == (calls < 8));
-    assert!(rt; (s.len(0) == Err(Cause::Power)) == (calls < 8));
+fn cut_at<S: Store>(s: &mut S, calls: u64) -> Result<(), Fail> {
+    check((script(s) == Err(Cause::Power)) == (calls < 8))?;
+    check((s.len(0) == Err(Cause::Power)) == (calls < 8))?;
     s.restart(Restart {
         keep: 0,
         past: Past::Cut,
         calls: 10,
     });
     let (length, mark) = expected(calls);
-    assert!(rt; s.len(0) == length);
-    assert!(rt; s.key(Key::Watermark) == Ok(mark));
+    check(s.len(0) == length)?;
+    check(s.key(Key::Watermark) == Ok(mark))
 }
 
 #[test]
 fn slots_cuts(rt: HostRuntime) -> Result<(), Fail> {
     for calls in 0..9u64 {
         let mut s = Slots::new(vec![in rt.alloc(); 0u8; 640]?, calls);
-        cut_at(&rt, &mut s, calls);
+        cut_at(&mut s, calls)?;
     }
     Ok(())
 }
@@ -57,7 +57,7 @@ fn slots_cuts(rt: HostRuntime) -> Result<(), Fail> {
 fn chains_cuts(rt: HostRuntime) -> Result<(), Fail> {
     for calls in 0..9u64 {
         let mut s = Chains::new(vec![in rt.alloc(); 0u8; 256]?, calls);
-        cut_at(&rt, &mut s, calls);
+        cut_at(&mut s, calls)?;
     }
     Ok(())
 }

@@ -7,3 +7,5 @@ mod chained;
 mod checks;
 #[cfg(test)]
 mod cuts;
+#[cfg(test)]
+mod differs;
