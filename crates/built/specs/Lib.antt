@@ -1,0 +1,5 @@
+pub mod Layout
+pub mod Recast
+pub mod Laws
+pub mod Seen
+pub mod Untouched

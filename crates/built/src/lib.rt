@@ -1,0 +1,5 @@
+// A built store: the table, the keys and the power of a catalog, over any memory that holds the bytes of its blobs.
+#![tactic(auto)]
+
+pub mod built;
+pub mod medium;
