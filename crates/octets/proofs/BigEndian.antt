@@ -1,7 +1,7 @@
 -- Bytes and the numbers that they stand for.
 use Rattle.std.proofs.Common.{◌≡◌, ℕ, zero, suc, ◌+◌, ◌*◌, ◌/◌, ◌%◌, ◌^◌, ◌<◌, ◌≤◌, List, [], ◌∷◌, ◌++◌, length, take, drop, sym, refl, ap, ◌∙◌, mul_comm, pow-suc, arith, length-append, length-drop, length-take}
 use native.Mathlib.Nat.{div-div-eq-div-mul}
-use Rattle.std.proofs.lemmas.List.{get_or-take, get_or-drop}
+use Rattle.std.proofs.lemmas.List.{get_or-take, get_or-drop, drop-append-le, drop_all}
 use Rattle.octets.specs.BigEndian.{digits, number_from, number_of, Bytes}
 
 pub length_digits : (k n : ℕ) → length (digits k n) ≡ k
@@ -54,16 +54,16 @@ digits_number bs h = digits_from 0 bs h
 pub number_more : (bs : List ℕ) (b : ℕ) → number_of (bs ++ b ∷ []) ≡ number_of bs * 256 + b
 number_more bs b = number_from_append 0 bs (b ∷ [])
 
+-- the lowest bytes come last
+pub digits_last : (j k n : ℕ) → drop j (digits (j + k) n) ≡ digits k n
+digits_last j zero n = drop_all j (digits (j + 0) n) (omega (arith, length_digits (j + 0) n))
+digits_last j (suc k) n =
+    let l : length (digits (j + k) (n / 256)) ≡ j + k = length_digits (j + k) (n / 256) in
+    ap (λ m. drop j (digits m n)) (let e : j + suc k ≡ suc (j + k) = omega arith in e)
+    ∙ drop-append-le j (digits (j + k) (n / 256)) (n % 256 ∷ []) (omega arith)
+    ∙ ap (λ zs. zs ++ n % 256 ∷ []) (digits_last j k (n / 256))
+
 -- the quotients that the library writes out are repeated ones
-pub digits_2 : (n : ℕ) → (n / 256 % 256) ∷ (n % 256) ∷ [] ≡ digits 2 n
-digits_2 n = refl
-
-pub digits_4 : (n : ℕ) → (n / 16777216 % 256) ∷ (n / 65536 % 256) ∷ (n / 256 % 256) ∷ (n % 256) ∷ [] ≡ digits 4 n
-digits_4 n =
-    let a : n / 256 / 256 ≡ n / 65536 = omega arith in
-    let b : n / 65536 / 256 ≡ n / 16777216 = omega arith in
-    simp (a, b)
-
 pub digits_8 : (n : ℕ)
     → (n / 72057594037927936 % 256) ∷ (n / 281474976710656 % 256) ∷ (n / 1099511627776 % 256) ∷ (n / 4294967296 % 256) ∷ (n / 16777216 % 256) ∷ (n / 65536 % 256)
     ∷ (n / 256 % 256) ∷ (n % 256) ∷ []

@@ -1,9 +1,82 @@
 // Numbers as bytes, the highest first.
-ghost use Rattle.std.specs.Prelude.{◌≡◌, ◌+◌, ◌^◌, ◌<◌, ◌≤◌, length, take, drop};
+ghost use Rattle.std.specs.Prelude.{◌≡◌, ℕ, ◌+◌, ◌^◌, ◌<◌, ◌≤◌, length, take, drop};
 ghost use Rattle.octets.specs.BigEndian.{digits, number_of};
 ghost use Rattle.octets.specs.Written.{written};
+ghost use Rattle.std.proofs.Common.{rules};
 
 use crate::copies::put_bytes;
+
+// An unsigned number that takes so many bytes, eight at most.
+pub trait Unsigned: Copy {
+    ghost WIDTH: { ℕ };
+
+    ghost value: { Self → ℕ };
+
+    const WIDTH: usize;
+
+    fn widen(self) -> u64
+        ensures { result ≡ value self };
+
+    fn narrow(n: u64) -> Self
+        requires { n < 256 ^ WIDTH }
+        ensures { value result ≡ n };
+
+    ghost short: { WIDTH ≤ 8 };
+}
+
+impl Unsigned for u16 {
+    ghost WIDTH = { 2 };
+
+    ghost value = { λ n. n };
+
+    const WIDTH: usize = 2;
+
+    fn widen(self) -> u64 {
+        self.into()
+    }
+
+    fn narrow(n: u64) -> u16 {
+        n as u16
+    }
+
+    ghost short = { Prim.search rules };
+}
+
+impl Unsigned for u32 {
+    ghost WIDTH = { 4 };
+
+    ghost value = { λ n. n };
+
+    const WIDTH: usize = 4;
+
+    fn widen(self) -> u64 {
+        u64::from(self)
+    }
+
+    fn narrow(n: u64) -> u32 {
+        n as u32
+    }
+
+    ghost short = { Prim.search rules };
+}
+
+impl Unsigned for u64 {
+    ghost WIDTH = { 8 };
+
+    ghost value = { λ n. n };
+
+    const WIDTH: usize = 8;
+
+    fn widen(self) -> u64 {
+        self
+    }
+
+    fn narrow(n: u64) -> u64 {
+        n
+    }
+
+    ghost short = { Prim.search rules };
+}
 
 // The number that at most eight bytes stand for.
 fn number(bytes: &[u8]) -> u64
@@ -18,53 +91,19 @@ fn number(bytes: &[u8]) -> u64
     n
 }
 
-// Writes the two bytes of a number into out, from `at` on.
-pub fn put_u16(out: &mut [u8], at: usize, n: u16)
-    requires { at + 2 ≤ length out.old }
-    ensures { out.new ≡ written out.old at (digits 2 n) }
+// Writes a number into out, from `at` on.
+pub fn put<N: Unsigned>(out: &mut [u8], at: usize, n: N)
+    requires { at + N.WIDTH ≤ length out.old }
+    ensures { out.new ≡ written out.old at (digits N.WIDTH (N.value n)) }
 {
-    let two = n.to_be_bytes();
-    put_bytes(out, at, &two);
+    let eight = n.widen().to_be_bytes();
+    put_bytes(out, at, &eight[8 - N::WIDTH..]);
 }
 
-// The same of four bytes.
-pub fn put_u32(out: &mut [u8], at: usize, n: u32)
-    requires { at + 4 ≤ length out.old }
-    ensures { out.new ≡ written out.old at (digits 4 n) }
+// The number that the bytes from `at` on stand for.
+pub fn get<N: Unsigned>(bytes: &[u8], at: usize) -> N
+    requires { at + N.WIDTH ≤ length bytes.now }
+    ensures { N.value result ≡ number_of (take N.WIDTH (drop at bytes.now)) }
 {
-    let four = n.to_be_bytes();
-    put_bytes(out, at, &four);
-}
-
-// The same of eight bytes.
-pub fn put_u64(out: &mut [u8], at: usize, n: u64)
-    requires { at + 8 ≤ length out.old }
-    ensures { out.new ≡ written out.old at (digits 8 n) }
-{
-    let eight = n.to_be_bytes();
-    put_bytes(out, at, &eight);
-}
-
-// The number that the two bytes from `at` on stand for.
-pub fn get_u16(bytes: &[u8], at: usize) -> u16
-    requires { at + 2 ≤ length bytes.now }
-    ensures { result ≡ number_of (take 2 (drop at bytes.now)) }
-{
-    number(&bytes[at..at + 2]) as u16
-}
-
-// The number that the four bytes from `at` on stand for.
-pub fn get_u32(bytes: &[u8], at: usize) -> u32
-    requires { at + 4 ≤ length bytes.now }
-    ensures { result ≡ number_of (take 4 (drop at bytes.now)) }
-{
-    number(&bytes[at..at + 4]) as u32
-}
-
-// The number that the eight bytes from `at` on stand for.
-pub fn get_u64(bytes: &[u8], at: usize) -> u64
-    requires { at + 8 ≤ length bytes.now }
-    ensures { result ≡ number_of (take 8 (drop at bytes.now)) }
-{
-    number(&bytes[at..at + 8])
+    N::narrow(number(&bytes[at..at + N::WIDTH]))
 }

@@ -7,7 +7,7 @@ ghost use Rattle.std.proofs.Common.{rules};
 
 use crate::distance::{Distance, Grade};
 use crate::record::Record;
-use octets::numbers::{get_u16, get_u32, put_u16, put_u32};
+use octets::numbers::{get, put};
 use std::fmt;
 
 impl Record for Distance {
@@ -33,8 +33,8 @@ impl Record for Distance {
         if out.len() != 7 {
             return false;
         }
-        put_u32(out, 0, self.station);
-        put_u16(out, 4, self.reading);
+        put(out, 0, self.station);
+        put(out, 4, self.reading);
         out[6] = self.grade.number();
         true
     }
@@ -46,8 +46,8 @@ impl Record for Distance {
         let Some(grade) = Grade::from_number(bytes[6]) else {
             return None;
         };
-        let station = get_u32(bytes, 0);
-        let reading = get_u16(bytes, 4);
+        let station = get(bytes, 0);
+        let reading = get(bytes, 4);
         Some(Distance {
             station,
             reading,

@@ -1,12 +1,12 @@
 -- Bytes of a chain and bytes of its sectors.
-use Rattle.std.proofs.Common.{◌≡◌, ℕ, zero, suc, ◌+◌, ◌-◌, ◌*◌, ◌/◌, ◌%◌, ◌<◌, ◌≤◌, min, List, [], ◌∷◌, ◌++◌, length, get_or, take, drop, sym, refl, ap, ◌∙◌, subst, arith, length-append, length-drop}
+use Rattle.std.proofs.Common.{◌≡◌, ℕ, zero, suc, ◌+◌, ◌-◌, ◌*◌, ◌/◌, ◌%◌, ◌<◌, ◌≤◌, min, List, [], ◌∷◌, ◌++◌, length, get_or, take, drop, sym, refl, ap, ◌∙◌, subst, arith, length-append, length-drop, max, add-one}
 use Rattle.std.specs.List.{flat_map}
 use Rattle.std.proofs.lemmas.List.{append_assoc, take-append-drop, take-take, take_at, take-append-le, drop-take, drop-drop, drop_at, drop-append-le, length-take-le}
 use Rattle.store.specs.Occurs.{occurs}
 use Rattle.octets.specs.Written.{written}
 use Rattle.store.proofs.Occurs.{occurs_self, occurs_at}
 use Rattle.sectors.specs.declared.chain.Chain.{Chain}
-use Rattle.sectors.specs.Sectors.{next_of, payload, sectors, after, once, Apart, Stored}
+use Rattle.sectors.specs.Sectors.{next_of, payload, sectors, after, once, need, Apart, Stored}
 use Rattle.sectors.specs.Chains.{list, joint, Filled}
 use Rattle.sectors.proofs.Links.{length_payload}
 use Rattle.sectors.proofs.Paths.{inside, at_most_once, length_sectors, after_in, after_more}
@@ -176,46 +176,49 @@ filled_more mem c at xs now w s ys new h n a l i m e was put =
       others = λ q z. put.others q (λ f. let v = ap (λ p. occurs p zs) f in omega arith) ∙ was.others q z;
     }
 
--- sector s of chain d holds byte `at`, and n bytes from there on lie in the chain
-pub record Suits (mem : List ℕ) (d : Chain) (at n s : ℕ) : Type 0 where
-  pub apart : Apart mem (list mem d)
-  pub within : at + n ≤ 60 * d.count
-  pub here : s ≡ after (at / 60) (next_of mem) d.first
+-- one sector more is walked
+pub next_sector : (mem : List ℕ) (d : Chain) (k s t : ℕ) → s ≡ after k (next_of mem) d.first → t ≡ next_of mem s → t ≡ after (k + 1) (next_of mem) d.first
+next_sector mem d k s t here next =
+    next ∙ ap (next_of mem) here ∙ sym (after_more k (next_of mem) d.first) ∙ ap (λ j. after j (next_of mem) d.first) (sym (add-one k))
 
--- s is where byte `at` lies, if there is such a byte
-abbrev pub Leads : List ℕ → Chain → ℕ → ℕ → ℕ → ℕ → Type 0
-Leads mem d at n done s = done < n → s ≡ after ((at + done) / 60) (next_of mem) d.first
+-- how many of the n bytes from `at` on lie before sector k of the chain
+abbrev pub done : ℕ → ℕ → ℕ → ℕ
+done at n k = min (60 * k - at) n
 
-pub leads_none : (mem : List ℕ) (d : Chain) (at n s : ℕ) → Suits mem d at n s → Leads mem d at n 0 s
-leads_none mem d at n s h l = h.here ∙ ap (λ k. after (k / 60) (next_of mem) d.first) (let e : at ≡ at + 0 = omega arith in e)
+-- the turn of a loop at sector k, which holds those of the n bytes from `at` on that are numbered `from` to `to` in the chain
+module _ (mem : List ℕ) (d : Chain) (at n k from to s : ℕ) (h : Apart mem (list mem d)) (within : at + n ≤ 60 * d.count)
+    (first : at / 60 ≤ k) (last : k < need (at + n)) (begins : from ≡ max at (60 * k)) (ends : to ≡ min (at + n) (60 * k + 60))
+    (here : s ≡ after k (next_of mem) d.first) where
+  inside_chain : k < d.count
+  inside_chain = omega arith
 
-pub leads_more : (mem : List ℕ) (d : Chain) (at n done k s t : ℕ) → Leads mem d at n done s → done < n → k ≡ min (60 - (at + done) % 60) (n - done)
-    → t ≡ next_of mem s → Leads mem d at n (done + k) t
-leads_more mem d at n done k s t h l e f m =
-    let z : (at + (done + k)) / 60 ≡ suc ((at + done) / 60) = omega arith in
-    f ∙ ap (next_of mem) (h l) ∙ sym (after_more ((at + done) / 60) (next_of mem) d.first) ∙ ap (λ j. after j (next_of mem) d.first) (sym z)
+  at_k : from / 60 ≡ k
+  at_k = omega arith
 
--- the sector at hand lies in the memory
-pub leads_in : (mem : List ℕ) (d : Chain) (at n done s t : ℕ) → Suits mem d at n t → Leads mem d at n done s → done < n → 64 * s + 64 ≤ length mem
-leads_in mem d at n done s t h k l = reached mem d ((at + done) / 60) s h.apart (omega (arith, h.within)) (k l)
+  -- the sector at hand lies in the memory
+  pub turn_inside : 64 * s + 64 ≤ length mem
+  turn_inside = reached mem d k s h inside_chain here
 
--- one turn of a loop that writes
-pub turn_in : (mem : List ℕ) (d : Chain) (at n t : ℕ) (xs now : List ℕ) (done s k : ℕ) (ys : List ℕ) (r : ℕ) (new : List ℕ) → Suits mem d at n t
-    → length now ≡ length mem → length xs ≡ done → Filled mem d at xs now → Leads mem d at n done s → done < n
-    → k ≡ min (60 - (at + done) % 60) (n - done) → length ys ≡ k → Stored now s ((at + done) % 60) ys new → r ≡ next_of now s
-    → Filled mem d at (xs ++ ys) new × Leads mem d at n (done + k) r
-turn_in mem d at n t xs now done s k ys r new suits long e was leads l m y put next = (
-  filled_more mem d at xs now (at + done) s ys new suits.apart long (omega arith) (omega (arith, suits.within)) (omega (arith, suits.within))
-      (omega arith) (leads l) was put,
-  leads_more mem d at n done k s r leads l m (next ∙ was.nexts s),
-)
+  here_at : s ≡ after (from / 60) (next_of mem) d.first
+  here_at = here ∙ ap (λ j. after j (next_of mem) d.first) (sym at_k)
 
--- one turn of a loop that reads
-pub turn_out : (mem : List ℕ) (d : Chain) (at n t : ℕ) (done s k : ℕ) → Suits mem d at n t → Leads mem d at n done s → done < n
-    → k ≡ min (60 - (at + done) % 60) (n - done)
-    → take (done + k) (drop at (joint mem d)) ≡ take done (drop at (joint mem d)) ++ take k (drop ((at + done) % 60) (payload mem s))
-turn_out mem d at n t done s k suits leads l m =
-    take_add done k (drop at (joint mem d))
-    ∙ ap (λ ys. take done (drop at (joint mem d)) ++ take k ys) (drop-drop done at (joint mem d))
-    ∙ ap (λ ys. take done (drop at (joint mem d)) ++ ys)
-    (piece mem d (at + done) k s suits.apart (omega (arith, suits.within)) (omega arith) (leads l))
+  -- a turn that writes
+  pub turn_in : (xs now ys new : List ℕ) → length now ≡ length mem → length xs ≡ done at n k → length ys ≡ to - from → Filled mem d at xs now
+      → Stored now s (from - 60 * k) ys new → Filled mem d at (xs ++ ys) new
+  turn_in xs now ys new long before many was put =
+      let e : from - 60 * k ≡ from % 60 = omega arith in
+      filled_more mem d at xs now from s ys new h long (omega arith) (omega arith) (omega (arith, at_k, inside_chain)) (omega arith) here_at was
+      (subst (λ j. Stored now s j ys new) e put)
+
+  -- a turn that reads
+  pub turn_out : take (done at n (k + 1)) (drop at (joint mem d)) ≡ take (done at n k) (drop at (joint mem d)) ++ take (to - from) (drop (from - 60 * k) (payload mem s))
+  turn_out =
+      let a : done at n (k + 1) ≡ done at n k + (to - from) = omega arith in
+      let b : at + done at n k ≡ from = omega arith in
+      let e : from % 60 ≡ from - 60 * k = omega arith in
+      ap (λ j. take j (drop at (joint mem d))) a
+      ∙ take_add (done at n k) (to - from) (drop at (joint mem d))
+      ∙ ap (λ ys. take (done at n k) (drop at (joint mem d)) ++ take (to - from) ys) (drop-drop (done at n k) at (joint mem d) ∙ ap (λ j. drop j (joint mem d)) b)
+      ∙ ap (λ ys. take (done at n k) (drop at (joint mem d)) ++ ys)
+      (piece mem d from (to - from) s h (omega (arith, at_k, inside_chain)) (omega arith) here_at
+      ∙ ap (λ j. take (to - from) (drop j (payload mem s))) e)

@@ -3,6 +3,7 @@ ghost use Rattle.std.specs.Prelude.{◌≡◌, ◌+◌, ◌*◌, ◌≤◌, leng
 ghost use Rattle.sectors.specs.Sectors.{Apart};
 ghost use Rattle.sectors.specs.Chains.{list, joint, Filled};
 
+use crate::append::needed;
 use crate::chain::Chain;
 use crate::link::walk;
 use crate::sector::{copy_in, copy_out};
@@ -12,13 +13,12 @@ pub fn read(memory: &[u8], c: Chain, at: usize, out: &mut [u8])
     requires { Apart memory.now (list memory.now c) × (at + length out.old ≤ 60 * c.count) × (c.count ≤ 65536) }
     ensures { out.new ≡ take (length out.old) (drop at (joint memory.now c)) }
 {
+    let end = at + out.len();
     let mut s = walk(memory, c.first, at / 60);
-    let mut done = 0;
-    while done < out.len() {
-        let from = (at + done) % 60;
-        let n = (60 - from).min(out.len() - done);
-        s = copy_out(memory, s, from, &mut out[done..done + n]);
-        done += n;
+    for k in at / 60..needed(end) {
+        let from = at.max(60 * k);
+        let to = end.min(60 * k + 60);
+        s = copy_out(memory, s, from - 60 * k, &mut out[from - at..to - at]);
     }
 }
 
@@ -27,13 +27,12 @@ pub fn write(memory: &mut [u8], c: Chain, at: usize, bytes: &[u8])
     requires { Apart memory.old (list memory.old c) × (at + length bytes.now ≤ 60 * c.count) × (c.count ≤ 65536) }
     ensures { Filled memory.old c at bytes.now memory.new }
 {
+    let end = at + bytes.len();
     let mut s = walk(memory, c.first, at / 60);
-    let mut done = 0;
-    while done < bytes.len() {
-        let from = (at + done) % 60;
-        let n = (60 - from).min(bytes.len() - done);
-        s = copy_in(memory, s, from, &bytes[done..done + n]);
-        done += n;
+    for k in at / 60..needed(end) {
+        let from = at.max(60 * k);
+        let to = end.min(60 * k + 60);
+        s = copy_in(memory, s, from - 60 * k, &bytes[from - at..to - at]);
     }
 }
 
@@ -42,13 +41,12 @@ pub fn fill(memory: &mut [u8], c: Chain, at: usize, many: usize, value: u8)
     requires { Apart memory.old (list memory.old c) × (at + many ≤ 60 * c.count) × (c.count ≤ 65536) }
     ensures { Filled memory.old c at (replicate many value) memory.new }
 {
+    let end = at + many;
     let block = [value; 60];
     let mut s = walk(memory, c.first, at / 60);
-    let mut done = 0;
-    while done < many {
-        let from = (at + done) % 60;
-        let n = (60 - from).min(many - done);
-        s = copy_in(memory, s, from, &block[0..n]);
-        done += n;
+    for k in at / 60..needed(end) {
+        let from = at.max(60 * k);
+        let to = end.min(60 * k + 60);
+        s = copy_in(memory, s, from - 60 * k, &block[0..to - from]);
     }
 }

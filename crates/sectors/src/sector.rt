@@ -3,7 +3,7 @@ ghost use Rattle.std.specs.Prelude.{◌≡◌, ◌+◌, ◌*◌, ◌^◌, ◌<�
 ghost use Rattle.sectors.specs.Sectors.{next_of, payload, Linked, Stored};
 
 use octets::copies::put_bytes;
-use octets::numbers::put_u32;
+use octets::numbers::put;
 
 // The next number of a sector, and its payload.
 pub fn parts(memory: &[u8], s: usize) -> (usize, &[u8])
@@ -24,7 +24,7 @@ pub fn set_next(memory: &mut [u8], s: usize, n: usize)
     requires { (64 * s + 64 ≤ length memory.old) × (n < 2 ^ 32) }
     ensures { Linked memory.old s n memory.new }
 {
-    put_u32(memory, 64 * s, n as u32);
+    put(memory, 64 * s, n as u32);
 }
 
 // Copies bytes out of a sector's payload, and says which sector is next.

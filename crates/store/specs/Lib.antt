@@ -5,3 +5,4 @@ pub mod Place
 pub mod Left
 pub mod Built
 pub mod Occurs
+pub mod Texts

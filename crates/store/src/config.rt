@@ -4,11 +4,11 @@ ghost use Rattle.std.specs.Prelude.{◌≡◌};
 #[derive(Clone, Copy, PartialEq, Eq, Debug)]
 pub struct BadConfig;
 
-impl BadConfig {
-    // The number that a refusal is known by.
-    pub fn number(self) -> u8
-        ensures { result ≡ 1 }
-    {
+// The number that a refusal is known by.
+impl From<BadConfig> for u8 {
+    ghost from_gives = { λ _ r. r ≡ 1 };
+
+    fn from(_refusal: BadConfig) -> u8 {
         1
     }
 }

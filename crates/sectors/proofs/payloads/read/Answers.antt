@@ -1,11 +1,11 @@
-use Rattle.std.proofs.Common.{◌≡◌, ◌+◌, ◌-◌, ◌/◌, ◌%◌, min, ◌++◌, length, take, drop, sym, refl, ap, ◌∙◌, arith}
+use Rattle.std.proofs.Common.{◌≡◌, ◌+◌, ◌-◌, ◌*◌, ◌/◌, ◌++◌, length, take, drop, sym, ap, ◌∙◌, arith}
 use Rattle.std.proofs.lemmas.List.{take_all}
 use Rattle.std.proofs.lemmas.Slice.{take-put_mid}
 use Rattle.octets.proofs.Writes.{length_part}
-use Rattle.sectors.specs.Sectors.{next_of, payload, sectors}
+use Rattle.sectors.specs.Sectors.{next_of, sectors, payload}
 use Rattle.sectors.specs.Chains.{list, joint}
 use Rattle.sectors.proofs.Paths.{apart_part, fewer}
-use Rattle.sectors.proofs.Pieces.{Suits, leads_none, leads_more, leads_in, turn_out}
+use Rattle.sectors.proofs.Pieces.{done, next_sector, turn_inside, turn_out}
 use Rattle.sectors.proofs.payloads.read.Goals as goal
 
 pub walk-s-requires : goal.walk-s-requires
@@ -14,47 +14,50 @@ walk-s-requires c =
     let d = c.args.c in
     apart_part mem (sectors (c.args.at / 60) (next_of mem) d.first) (list mem d) c.requires.0 (fewer (c.args.at / 60) d.count (next_of mem) d.first (omega arith))
 
-pub loop-done-init : goal.loop-done-init
-loop-done-init c = (omega arith, λ d h. (refl, leads_none c.args.memory.now d c.args.at (length c.args.out.now) c.walk-s.result h))
+pub loop-k-init : goal.loop-k-init
+loop-k-init c =
+    let e : done c.args.at (length c.args.out.now) (c.args.at / 60) ≡ 0 = omega arith in
+    (c.walk-s.ensures, ap (λ j. take j c.args.out.now) e ∙ sym (ap (λ j. take j (drop c.args.at (joint c.args.memory.now c.args.c))) e))
 
 pub copy_out-s-requires : goal.copy_out-s-requires
 copy_out-s-requires c =
     let mem = c.args.memory.now in
-    let n = length c.args.out.now in
-    let h : Suits mem c.args.c c.args.at n c.walk-s.result = record { apart = c.requires.0; within = c.requires.1; here = c.walk-s.ensures } in
-    let done = c.loop-done.done in
-    let k = done + c.min-n.result - done in
-    let long : length (take k (drop done c.loop-done.out)) ≡ k = length_part c.loop-done.out done k (omega arith) in
-    (leads_in mem c.args.c c.args.at n done c.loop-done.s c.walk-s.result h (c.loop-done.invariant.1 c.args.c h).1 (omega arith), omega arith)
+    let i = turn_inside mem c.args.c c.args.at (length c.args.out.now) c.loop-k.k c.max-from.result c.min-to.result c.loop-k.s c.requires.0 c.requires.1 (omega arith)
+    (omega (arith, c.needed-k-end.ensures)) c.max-from.ensures c.min-to.ensures c.loop-k.invariant.0 in
+    let j = c.min-to.result - c.args.at - (c.max-from.result - c.args.at) in
+    let long : length (take j (drop (c.max-from.result - c.args.at) c.loop-k.out)) ≡ j = length_part c.loop-k.out (c.max-from.result - c.args.at) j (omega (arith, c.loop-k.auto.out)) in
+    (i, omega arith)
 
-pub loop-done-preserved : goal.loop-done-preserved
-loop-done-preserved c =
+pub loop-k-preserved : goal.loop-k-preserved
+loop-k-preserved c =
     let mem = c.args.memory.now in
+    let d = c.args.c in
     let at = c.args.at in
     let n = length c.args.out.now in
-    let done = c.loop-done.done in
-    let k = c.min-n.result in
-    let part = done + k - done in
-    let long : length (take part (drop done c.loop-done.out)) ≡ k = length_part c.loop-done.out done part (omega arith) ∙ (let e : part ≡ k = omega arith in e) in
-    let m : k ≡ min (60 - (at + done) % 60) (n - done) = c.min-n.ensures ∙ ap (λ j. min (60 - (at + done) % 60) (j - done)) c.loop-done.auto.out in
-    let got : c.copy_out-s.new.out ≡ take k (drop ((at + done) % 60) (payload mem c.loop-done.s)) =
-    c.copy_out-s.ensures.bytes ∙ ap (λ j. take j (drop ((at + done) % 60) (payload mem c.loop-done.s))) long in
-    let len : length c.copy_out-s.new.out ≡ k = omega arith in (
-      omega arith,
-      λ d h.
-          let i = c.loop-done.invariant.1 d h in (
-            take-put_mid done part c.loop-done.out c.copy_out-s.new.out (done + k) (omega arith) (omega arith)
-                ∙ ap (λ ys. ys ++ c.copy_out-s.new.out) i.0
-                ∙ ap (λ ys. take done (drop at (joint mem d)) ++ ys) got
-                ∙ sym (turn_out mem d at n c.walk-s.result done c.loop-done.s k h i.1 (omega arith) m),
-            leads_more mem d at n done k c.loop-done.s c.copy_out-s.result i.1 (omega arith) m c.copy_out-s.ensures.next,
-          ),
+    let k = c.loop-k.k in
+    let from = c.max-from.result in
+    let to = c.min-to.result in
+    let i = c.loop-k.invariant in
+    let a = done at n k in
+    let j = to - at - (from - at) in
+    let e : from - at ≡ a = omega arith in
+    let m : j ≡ to - from = omega arith in
+    let long : length (take j (drop (from - at) c.loop-k.out)) ≡ j = length_part c.loop-k.out (from - at) j (omega (arith, c.loop-k.auto.out)) in
+    let same : length c.copy_out-s.new.out ≡ j = omega arith in
+    let got : c.copy_out-s.new.out ≡ take (to - from) (drop (from - 60 * k) (payload mem c.loop-k.s)) =
+    c.copy_out-s.ensures.bytes ∙ ap (λ q. take q (drop (from - 60 * k) (payload mem c.loop-k.s))) (long ∙ m) in
+    let r = turn_out mem d at n k from to c.loop-k.s c.requires.0 c.requires.1 (omega arith) (omega arith) c.max-from.ensures c.min-to.ensures i.0 in (
+      next_sector mem d k c.loop-k.s c.copy_out-s.result i.0 c.copy_out-s.ensures.next,
+      take-put_mid (from - at) j c.loop-k.out c.copy_out-s.new.out (done at n (k + 1)) (omega arith) (omega arith)
+          ∙ ap (λ q. take q c.loop-k.out ++ c.copy_out-s.new.out) e
+          ∙ ap (λ ys. ys ++ c.copy_out-s.new.out) i.1
+          ∙ ap (λ ys. take a (drop at (joint mem d)) ++ ys) got
+          ∙ sym r,
     )
 
 pub returns : goal.returns
 returns c =
-    let mem = c.args.memory.now in
     let n = length c.args.out.now in
-    let h : Suits mem c.args.c c.args.at n c.walk-s.result = record { apart = c.requires.0; within = c.requires.1; here = c.walk-s.ensures } in
-    let e : c.loop-done.done ≡ n = omega arith in
-    sym (take_all c.loop-done.done c.loop-done.out (omega arith)) ∙ (c.loop-done.invariant.1 c.args.c h).0 ∙ ap (λ k. take k (drop c.args.at (joint mem c.args.c))) e
+    let e : done c.args.at n c.loop-k.k ≡ n = omega arith in
+    sym (take_all n c.loop-k.out (omega (arith, c.loop-k.auto.out))) ∙ sym (ap (λ j. take j c.loop-k.out) e) ∙ c.loop-k.invariant.1
+    ∙ ap (λ j. take j (drop c.args.at (joint c.args.memory.now c.args.c))) e

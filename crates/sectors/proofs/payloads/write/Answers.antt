@@ -4,7 +4,7 @@ use Rattle.octets.proofs.Writes.{length_part}
 use Rattle.sectors.specs.Sectors.{next_of, sectors}
 use Rattle.sectors.specs.Chains.{list, Filled}
 use Rattle.sectors.proofs.Paths.{apart_part, fewer}
-use Rattle.sectors.proofs.Pieces.{Suits, take_add, filled_none, leads_none, leads_in, turn_in}
+use Rattle.sectors.proofs.Pieces.{take_add, done, filled_none, next_sector, turn_inside, turn_in}
 use Rattle.sectors.proofs.payloads.write.Goals as goal
 
 pub walk-s-requires : goal.walk-s-requires
@@ -13,47 +13,47 @@ walk-s-requires c =
     let d = c.args.c in
     apart_part mem (sectors (c.args.at / 60) (next_of mem) d.first) (list mem d) c.requires.0 (fewer (c.args.at / 60) d.count (next_of mem) d.first (omega arith))
 
-pub loop-done-init : goal.loop-done-init
-loop-done-init c =
-    let mem = c.args.memory.now in
-    (omega arith, λ d h. (filled_none mem d c.args.at, leads_none mem d c.args.at (length c.args.bytes.now) c.walk-s.result h))
+pub loop-k-init : goal.loop-k-init
+loop-k-init c =
+    let e : 0 ≡ done c.args.at (length c.args.bytes.now) (c.args.at / 60) = omega arith in
+    (c.walk-s.ensures, subst (λ j. Filled c.args.memory.now c.args.c c.args.at (take j c.args.bytes.now) c.args.memory.now) e (filled_none c.args.memory.now c.args.c c.args.at))
 
 pub copy_in-s-requires : goal.copy_in-s-requires
 copy_in-s-requires c =
     let mem = c.args.memory.now in
-    let n = length c.args.bytes.now in
-    let h : Suits mem c.args.c c.args.at n c.walk-s.result = record { apart = c.requires.0; within = c.requires.1; here = c.walk-s.ensures } in
-    let done = c.loop-done.done in
-    let k = done + c.min-n.result - done in
-    let long : length (take k (drop done c.args.bytes.now)) ≡ k = length_part c.args.bytes.now done k (omega arith) in
-    let i = leads_in mem c.args.c c.args.at n done c.loop-done.s c.walk-s.result h (c.loop-done.invariant.1 c.args.c h).1 (omega arith) in
-    (omega arith, omega arith)
+    let bs = c.args.bytes.now in
+    let i = turn_inside mem c.args.c c.args.at (length bs) c.loop-k.k c.max-from.result c.min-to.result c.loop-k.s c.requires.0 c.requires.1 (omega arith)
+    (omega (arith, c.needed-k-end.ensures)) c.max-from.ensures c.min-to.ensures c.loop-k.invariant.0 in
+    let j = c.min-to.result - c.args.at - (c.max-from.result - c.args.at) in
+    let long : length (take j (drop (c.max-from.result - c.args.at) bs)) ≡ j = length_part bs (c.max-from.result - c.args.at) j (omega arith) in
+    (omega (arith, i, c.loop-k.auto.memory), omega arith)
 
-pub loop-done-preserved : goal.loop-done-preserved
-loop-done-preserved c =
+pub loop-k-preserved : goal.loop-k-preserved
+loop-k-preserved c =
     let mem = c.args.memory.now in
+    let d = c.args.c in
     let bs = c.args.bytes.now in
     let at = c.args.at in
     let n = length bs in
-    let done = c.loop-done.done in
-    let k = c.min-n.result in
-    let part = done + k - done in
-    let e : part ≡ k = omega arith in
-    let long : length (take part (drop done bs)) ≡ k = length_part bs done part (omega arith) ∙ e in
-    let more : take done bs ++ take part (drop done bs) ≡ take (done + k) bs = ap (λ j. take done bs ++ take j (drop done bs)) e ∙ sym (take_add done k bs) in (
-      omega arith,
-      λ d h.
-          let i = c.loop-done.invariant.1 d h in
-          let r = turn_in mem d at n c.walk-s.result (take done bs) c.loop-done.memory done c.loop-done.s k (take part (drop done bs))
-          c.copy_in-s.result c.copy_in-s.new.memory h c.loop-done.auto.memory (length-take-le done bs (omega arith)) i.0 i.1 (omega arith)
-          c.min-n.ensures long c.copy_in-s.ensures.stored c.copy_in-s.ensures.next in
-          (subst (λ (xs : List ℕ). Filled mem d at xs c.copy_in-s.new.memory) more r.0, r.1),
+    let k = c.loop-k.k in
+    let from = c.max-from.result in
+    let to = c.min-to.result in
+    let i = c.loop-k.invariant in
+    let j = to - at - (from - at) in
+    let long : length (take j (drop (from - at) bs)) ≡ j = length_part bs (from - at) j (omega arith) in
+    let e : from - at ≡ done at n k = omega arith in
+    let f : done at n k + j ≡ done at n (k + 1) = omega arith in
+    let more : take (done at n k) bs ++ take j (drop (from - at) bs) ≡ take (done at n (k + 1)) bs =
+    ap (λ m. take (done at n k) bs ++ take j (drop m bs)) e ∙ sym (take_add (done at n k) j bs) ∙ ap (λ m. take m bs) f in
+    let r = turn_in mem d at n k from to c.loop-k.s c.requires.0 c.requires.1 (omega arith) (omega arith) c.max-from.ensures c.min-to.ensures i.0
+    (take (done at n k) bs) c.loop-k.memory (take j (drop (from - at) bs)) c.copy_in-s.new.memory c.loop-k.auto.memory
+    (length-take-le (done at n k) bs (omega arith)) (omega arith) i.1 c.copy_in-s.ensures.stored in (
+      next_sector mem d k c.loop-k.s c.copy_in-s.result i.0 (c.copy_in-s.ensures.next ∙ i.1.nexts c.loop-k.s),
+      subst (λ (xs : List ℕ). Filled mem d at xs c.copy_in-s.new.memory) more r,
     )
 
 pub returns : goal.returns
 returns c =
-    let mem = c.args.memory.now in
     let bs = c.args.bytes.now in
-    let h : Suits mem c.args.c c.args.at (length bs) c.walk-s.result = record { apart = c.requires.0; within = c.requires.1; here = c.walk-s.ensures } in
-    subst (λ (xs : List ℕ). Filled mem c.args.c c.args.at xs c.loop-done.memory) (take_all c.loop-done.done bs (omega arith))
-    (c.loop-done.invariant.1 c.args.c h).0
+    subst (λ (xs : List ℕ). Filled c.args.memory.now c.args.c c.args.at xs c.loop-k.memory) (take_all (done c.args.at (length bs) c.loop-k.k) bs (omega arith))
+    c.loop-k.invariant.1

@@ -20,7 +20,7 @@ returns c =
     let a : take 4 one ≡ p = take_written out 0 p (omega arith) in
     let b : take 6 two ≡ p ++ q = take_written one 4 q (omega arith) ∙ ap (λ (zs : List ℕ). zs ++ q) a in
     let g = grade_number d.grade in
-    let e : c.put_u16.new.out ≡ two = c.put_u16.ensures ∙ ap (λ (zs : List ℕ). written zs 4 q) c.put_u32.ensures in
+    let e : c.put-2.new.out ≡ two = c.put-2.ensures ∙ ap (λ (zs : List ℕ). written zs 4 q) c.put.ensures in
     let f : set two 6 g ≡ p ++ (q ++ g ∷ []) =
     sym (take_all 7 (set two 6 g) (let k = length-set two 6 g in omega arith)) ∙ take_more_set two 6 g (omega arith) ∙ ap (λ (zs : List ℕ). zs ++ g ∷ []) b in
     record { written = (n, ap (λ (zs : List ℕ). set zs 6 c.number.result) e ∙ ap (set two 6) c.number.ensures ∙ f); fits = search rules }
