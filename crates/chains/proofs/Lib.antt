@@ -1,5 +1,2 @@
 pub mod Across
-pub mod Changes
-pub mod Settles
-pub mod Images
-pub mod Outside
+pub mod Recasts

@@ -1,25 +1,22 @@
 -- The blobs of a chain store: their bytes, and the room that is left.
-use Rattle.std.specs.Prelude.{◌≡◌, ℕ, suc, ◌+◌, ◌-◌, ◌*◌, ◌<◌, List, [], ◌∷◌, map, length, take, Some, None, vec_items, Option, ◌≢◌, slice_index_or, refl}
+use Rattle.std.specs.Prelude.{◌≡◌, ℕ, suc, ◌+◌, ◌-◌, ◌*◌, ◌<◌, List, [], ◌∷◌, map, length, take, Some, ◌≢◌, slice_index_or, refl}
 use Rattle.std.proofs.Common.{arith, sym, ap, subst}
 use Rattle.std.proofs.lemmas.List.{length-take-le}
 use Rattle.store.specs.Disk.{Blob, find}
 use Rattle.catalog.specs.declared.row.Row.{Row}
 use Rattle.catalog.specs.declared.table.Table.{Table}
-use Rattle.catalog.specs.Rows.{none, Ordered}
+use Rattle.catalog.specs.Rows.{none}
 use Rattle.catalog.specs.Blobs as table
 use Rattle.catalog.specs.Blobs.{live, entry_by, blobs_by}
-use Rattle.catalog.specs.Found as lookup
 use Rattle.catalog.specs.Seen.{Stands, blob_at}
-use Rattle.catalog.proofs.Lookup.{length_rows, row_live, at_row}
+use Rattle.catalog.proofs.Lookup.{length_rows, row_live}
 use Rattle.sectors.specs.declared.chain.Chain.{Chain}
 use Rattle.sectors.specs.Sectors.{need}
 use Rattle.sectors.specs.Chains.{joint, Both, Moved}
 use Rattle.sectors.proofs.Pieces.{length_joint}
-use Rattle.chains.specs.declared.chains.Chains.{Chains}
 use Rattle.chains.specs.Cover.{chain_of, total}
-use Rattle.chains.specs.Seen.{chain_bytes, content_of, blob_in, sectors_of, unused, room_in}
-use Rattle.chains.specs.Found.{row_at, InUse, Held, FoundAt}
-use Rattle.chains.specs.Covering.{Chained, chained, both_of, apart_of, other_bytes}
+use Rattle.chains.specs.Seen.{chain_bytes, sectors_of, unused, room_in}
+use Rattle.chains.specs.Covering.{Chained, both_of, apart_of, other_bytes}
 
 module _ (n : ℕ) (mem : List ℕ) (t : Table) (free : Chain) (h : Chained n mem (live t) free) where
   inside : (i : ℕ) → i < t.count → i < length (live t)
@@ -63,24 +60,3 @@ module _ (n : ℕ) (mem : List ℕ) (t : Table) (free : Chain) (h : Chained n me
       let b = other_bytes n mem (live t) free h i (inside i l) new d g long moved' k (inside k m) e in
       subst (λ (x : Row). blob_at (chain_bytes new) x ≡ blob_at (chain_bytes mem) x) (row_live t k m)
       (ap (λ ys. let y : Blob = record { bytes = take (slice_index_or (live t) k none).len ys; sound = (slice_index_or (live t) k none).sound; safe = (slice_index_or (live t) k none).safe } in y) b)
-
-pub stands : (s : Chains) → Stands (content_of s) s.catalog.table
-stands s = sized s.sectors (vec_items s.memory) s.catalog.table s.free (chained s)
-
-pub in_use : (s : Chains) (i : ℕ) → i < s.catalog.table.count → InUse s i (row_at s i)
-in_use s i l =
-    let t = s.catalog.table in
-    let o = at_row t Ordered t.ordered i l in
-    let b = both_at s.sectors (vec_items s.memory) t s.free (chained s) i l in
-    record { is = refl; safe_within = o.0; sound_within = o.1; both = b; few = b.few; long = stands s i l }
-
-pub held : (s : Chains) (b i : ℕ) → lookup.Here b s.catalog.table i → Held b s i
-held s b i h =
-    let u = in_use s i h.within in
-    let f = h.found (blob_in s) in
-    let r = room_of s.sectors (vec_items s.memory) s.catalog.table s.free (chained s) b (blob_in s (row_at s i)) f in
-    record { here = h; within = h.within; held = u; found = f; room = omega (arith, u.long, ap need u.long) }
-
-pub found_at : (s : Chains) (b : ℕ) (r : Option ℕ) → lookup.FoundAt b s.catalog.table r → FoundAt b s r
-found_at s b None h = h (blob_in s)
-found_at s b (Some i) h = held s b i h

@@ -3,7 +3,7 @@ use Rattle.std.specs.Prelude.{◌≡◌, ℕ, ◌+◌, ◌-◌, cond, List, [], 
 use Rattle.store.specs.Occurs.{occurs}
 use Rattle.catalog.specs.declared.row.Row.{Row}
 use Rattle.sectors.specs.declared.chain.Chain.{Chain}
-use Rattle.sectors.specs.Sectors.{next_of, after, last_of, once, need}
+use Rattle.sectors.specs.Sectors.{once, need}
 use Rattle.sectors.specs.Chains.{list}
 
 -- how many of the memory's sectors are put to use: none if there are too few or too many
@@ -17,10 +17,6 @@ chain_of r = record { first = r.place; last = r.tail; count = need r.len }
 abbrev pub total : (Row → ℕ) → List Row → ℕ
 total h [] = 0
 total h (r ∷ rs) = h r + total h rs
-
--- zero ends a chain, and its last sector is known
-abbrev pub Ended : List ℕ → Chain → Type 0
-Ended mem c = (after c.count (next_of mem) c.first ≡ 0) × (c.last ≡ last_of c.count (next_of mem) c.first)
 
 -- each of the sectors 1 to n − 1 stands at one place of one chain, of these rows' and the free one, and no other does
 abbrev pub Covers : ℕ → List ℕ → List Row → Chain → Type 0

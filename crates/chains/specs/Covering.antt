@@ -1,5 +1,5 @@
 -- The chains of all blobs and the free chain, as one of them takes sectors from the free chain or gives them back.
-use Rattle.std.specs.Prelude.{◌≡◌, ℕ, suc, ◌/◌, ◌<◌, ◌≤◌, min, List, ◌++◌, length, get_or, take, drop, set, vec_items, vec_len, ◌≢◌, slice_index_or, slice_set, refl}
+use Rattle.std.specs.Prelude.{◌≡◌, ℕ, suc, ◌/◌, ◌<◌, ◌≤◌, min, List, ◌++◌, length, get_or, take, drop, set, ◌≢◌, slice_index_or, slice_set, refl}
 use Rattle.std.proofs.Common.{arith, sym, ap, ◌∙◌, subst, inl, inr, length-set}
 use Rattle.std.specs.List.{flat_map, insert, remove}
 use Rattle.std.proofs.lemmas.List.{get_or-set_same, get_or-set_other, take-set, drop-set-lt}
@@ -17,8 +17,7 @@ use Rattle.sectors.proofs.Paths.{once_one}
 use Rattle.sectors.proofs.Pieces.{joined_same}
 use Rattle.sectors.proofs.Moves.{stands_same}
 use Rattle.sectors.proofs.Appends.{moved_written}
-use Rattle.chains.specs.declared.chains.Chains.{Chains}
-use Rattle.chains.specs.Cover.{usable, chain_of, Ended, Covers, Counted}
+use Rattle.chains.specs.Cover.{usable, chain_of, Covers, Counted}
 use Rattle.chains.specs.Totals.{total_at, total_two, total_set, total_inserted, total_removed}
 
 -- n sectors of the memory are in the chains of these rows and in the free chain
@@ -71,7 +70,7 @@ module _ (n : ℕ) (mem : List ℕ) (rs : List Row) (free : Chain) (h : Chained 
     same_next : (k : ℕ) → k < length rs → (k ≢ i) → (q : ℕ) → 1 ≤ uses_of mem q (slice_index_or rs k none) → next_of new q ≡ next_of mem q
     same_next k m e q u = moved.nexts q (never_two i k l m e q u)
 
-    other_stands : (k : ℕ) → k < length rs → (k ≢ i) → Stands new (chain_of (slice_index_or rs k none)) × (list new (chain_of (slice_index_or rs k none)) ≡ list mem (chain_of (slice_index_or rs k none)))
+    pub other_stands : (k : ℕ) → k < length rs → (k ≢ i) → Stands new (chain_of (slice_index_or rs k none)) × (list new (chain_of (slice_index_or rs k none)) ≡ list mem (chain_of (slice_index_or rs k none)))
     other_stands k m e = stands_same mem new (chain_of (slice_index_or rs k none)) (same_next k m e) (h.rows k m)
 
     -- the bytes of the other rows
@@ -80,7 +79,7 @@ module _ (n : ℕ) (mem : List ℕ) (rs : List Row) (free : Chain) (h : Chained 
         ap (flat_map (payload new)) (other_stands k m e).1
         ∙ joined_same (payload mem) (payload new) (list mem (chain_of (slice_index_or rs k none))) (λ q u. moved.payloads q (never_two i k l m e q u))
 
-    other_uses : (p k : ℕ) → k < length rs → (k ≢ i) → uses_of new p (slice_index_or rs k none) ≡ uses_of mem p (slice_index_or rs k none)
+    pub other_uses : (p k : ℕ) → k < length rs → (k ≢ i) → uses_of new p (slice_index_or rs k none) ≡ uses_of mem p (slice_index_or rs k none)
     other_uses p k m e = ap (occurs p) (other_stands k m e).1
 
     each_moved : (r : Row) → chain_of r ≡ d → Each (λ (x : Row). Stands new (chain_of x)) (slice_set rs i r)
@@ -152,8 +151,8 @@ moved_none mem c f h = record { both = h; count = refl; same = λ p. refl; nexts
 pub moved_filled : (mem new : List ℕ) (c f : Chain) (at : ℕ) (bs : List ℕ) → length new ≡ length mem → Both mem c f → Filled mem c at bs new → Moved mem c f new c f
 moved_filled mem new c f at bs long h w = moved_written mem mem new c f c f at bs long (moved_none mem c f h) w
 
--- the same as the fields of the store
-usable_within : (m : ℕ) → usable m ≤ min m 65536
+-- as many as are put to use lie in the memory
+pub usable_within : (m : ℕ) → usable m ≤ min m 65536
 usable_within m =
     elim (cases_lt m 2) [
       | inl a ↦ let t = lt-leb 2 m a in simp t (omega arith)
@@ -162,17 +161,3 @@ usable_within m =
         | inr b ↦ let t = le-leb 2 m a in let u = le-leb m 65536 b in simp (t, u) (omega arith)
       ]
     ]
-
-pub chained : (s : Chains) → Chained s.sectors (vec_items s.memory) (live s.catalog.table) s.free
-chained s =
-    record {
-      within = omega (arith, s.cut, usable_within (vec_len s.memory / 64), s.memory.ok);
-      rows = λ k l. let e = s.ends k l in record { ends = e.0; last = e.1 };
-      spare = record { ends = s.rest.0; last = s.rest.1 };
-      covers = s.covers;
-      counts = s.counts;
-    }
-
-pub owed : (n : ℕ) (mem : List ℕ) (rs : List Row) (free : Chain) → Chained n mem rs free
-    → Each (λ (r : Row). Ended mem (chain_of r)) rs × (Ended mem free × (Covers n mem rs free × (Counted n rs free × Unit {0})))
-owed n mem rs free h = (λ k l. ((h.rows k l).ends, (h.rows k l).last), ((h.spare.ends, h.spare.last), (h.covers, (h.counts, tt))))

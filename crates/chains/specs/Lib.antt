@@ -1,9 +1,8 @@
 pub mod Cover
 pub mod Seen
-pub mod Found
-pub mod Made
-pub mod Settled
-pub mod Untouched
-pub mod Contents
-pub mod Covering
 pub mod Totals
+pub mod Covering
+pub mod Contents
+pub mod Changes
+pub mod Layout
+pub mod Lawful

@@ -1,11 +1,6 @@
-// A store of 64-byte sectors in chains.
+// A store of sectors of 64 bytes in chains.
 #![tactic(auto)]
 
-pub mod again;
-pub mod ask;
 pub mod chains;
-pub mod new;
-pub mod setup;
+pub mod medium;
 mod steps;
-pub mod stores;
-pub mod write;

@@ -162,3 +162,14 @@ front_bytes mem new c d k h l same e =
     ap (flat_map (payload new)) e
     ∙ joined_same (payload mem) (payload new) (take k (list mem c)) (λ q m. same q)
     ∙ joined_take (payload mem) (list mem c) k (sixties mem (list mem c) h) (omega (arith, length_sectors c.count (next_of mem) c.first))
+
+-- one move after another
+pub moved_then : (mem mid new : List ℕ) (c f d g e h : Chain) → Moved mem c f mid d g → Moved mid d g new e h → Moved mem c f new e h
+moved_then mem mid new c f d g e h a b =
+    record {
+      both = b.both;
+      count = b.count ∙ a.count;
+      same = λ p. b.same p ∙ a.same p;
+      nexts = λ q z. b.nexts q (a.same q ∙ z) ∙ a.nexts q z;
+      payloads = λ q z. b.payloads q (a.same q ∙ z) ∙ a.payloads q z;
+    }

@@ -4,7 +4,7 @@ ghost use Rattle.sectors.specs.Sectors.{need, next_of, after, Apart};
 ghost use Rattle.sectors.specs.Chains.{list, joint, Both, Moved, Filled};
 
 use crate::chain::Chain;
-use crate::grow::lengthen;
+use crate::grow::{keep, lengthen};
 use crate::payloads::write;
 
 // How many sectors so many bytes need.
@@ -57,4 +57,23 @@ pub fn append(memory: &mut [u8], free: &mut Chain, chain: Chain, len: usize, byt
     let longer = lengthen(memory, free, chain, k);
     write_past(memory, longer, chain, len, bytes);
     longer
+}
+
+// The first `kept` bytes of a chain stay, and these follow them. Sectors come from the free chain or go back to it.
+pub fn recast(
+    memory: &mut [u8],
+    free: &mut Chain,
+    chain: Chain,
+    kept: usize,
+    bytes: &[u8],
+) -> Chain
+    requires both { Both memory.old chain free.old }
+    requires within { need kept ≤ chain.count }
+    requires room { kept + length bytes.now ≤ 60 * (chain.count + free.old.count) }
+    ensures moved { Moved memory.old chain free.old memory.new result free.new }
+    ensures count { result.count ≡ need (kept + length bytes.now) }
+    ensures bytes { take (kept + length bytes.now) (joint memory.new result) ≡ take kept (joint memory.old chain) ++ bytes.now }
+{
+    let front = keep(memory, free, chain, needed(kept));
+    append(memory, free, front, kept, bytes)
 }
