@@ -3,3 +3,5 @@ pub mod Recast
 pub mod Laws
 pub mod Seen
 pub mod Untouched
+pub mod Calls
+pub mod Rewritten

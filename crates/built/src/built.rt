@@ -1,5 +1,4 @@
-// The built store.
-ghost use Rattle.std.specs.Prelude.{◌≡◌};
+// The built store: a memory that it owns, and a catalog.
 
 use crate::medium::Medium;
 use catalog::catalog::Catalog;

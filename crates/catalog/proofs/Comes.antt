@@ -1,9 +1,9 @@
 -- A blob comes, and a blob goes: what the blobs are then.
-use Rattle.std.proofs.Common.{◌≡◌, ℕ, ◌+◌, ◌-◌, ◌<◌, ◌≤◌, List, ◌++◌, map, length, get_or, take, sym, ap, ◌∙◌, subst, arith}
+use Rattle.std.proofs.Common.{◌≡◌, ℕ, ◌+◌, ◌-◌, ◌<◌, ◌≤◌, List, ◌++◌, map, length, get_or, take, drop, set, suc, sym, refl, ap, ◌∙◌, subst, arith}
 use Rattle.std.specs.List.{insert as inserted, remove}
-use Rattle.std.proofs.lemmas.List.{take_at}
-use Rattle.std.proofs.lemmas.List.Edits.{length-insert, length-remove}
-use Rattle.store.specs.Disk.{Blob, blank, numbers, insert, without}
+use Rattle.std.proofs.lemmas.List.{take_at, take-set, drop-set-lt, set-get_or}
+use Rattle.std.proofs.lemmas.List.Edits.{length-insert, length-remove, get_or-insert_at}
+use Rattle.store.specs.Disk.{Blob, Blobs, blank, numbers, insert, without}
 use Rattle.store.specs.Place.{Sought}
 use Rattle.store.proofs.Places.{insert_here, insert_new, without_here}
 use Rattle.catalog.specs.declared.row.Row.{Row}
@@ -11,7 +11,8 @@ use Rattle.catalog.specs.declared.table.Table.{Table}
 use Rattle.catalog.specs.Rows.{none, numbers_of, Each, fresh_row}
 use Rattle.catalog.specs.Blobs.{live, row_at, entry_by, blobs_by}
 use Rattle.catalog.specs.Found.{Here}
-use Rattle.catalog.proofs.Lookup.{numbers_blobs, length_rows, length_blobs, number_at, sought_blobs, above_b}
+use Rattle.catalog.proofs.Change.{set_blob}
+use Rattle.catalog.proofs.Lookup.{numbers_blobs, length_rows, row_live, length_blobs, number_at, sought_blobs, above_b}
 use Rattle.catalog.proofs.Moves.{map_inserted, map_removed, inserted_each, removed_each}
 
 -- the blob is there already
@@ -36,6 +37,13 @@ module _ (t : Table) (b i p : ℕ) (u : Table) (C : List Row) (count : u.count �
       ∙ ap (λ (x : Blob). inserted (blobs_by g t) i (b, x)) empty
       ∙ sym (insert_new b (blobs_by g t) i (omega (arith, length_blobs g t)) (sought_blobs g t b i f).1 (above_b g t b i f e))
 
+  -- the new row
+  pub row_opened : row_at u i ≡ fresh_row b p
+  row_opened =
+      sym (row_live u i (omega (arith, count)))
+      ∙ ap (λ rs. get_or rs i none) live_opened
+      ∙ get_or-insert_at (live t) i (fresh_row b p) none (omega (arith, length_rows t))
+
   pub each_opened : (P : Row → Type 0) → P (fresh_row b p) → Each P (live t) → Each P (live u)
   each_opened P q h = subst (Each P) (sym live_opened) (inserted_each P none (live t) i (fresh_row b p) (omega (arith, length_rows t)) h q)
 
@@ -53,6 +61,20 @@ module _ (t : Table) (i : ℕ) (u : Table) (C : List Row) (count : u.count ≡ t
       ap (map (entry_by g)) live_gone
       ∙ map_removed (entry_by g) (live t) i
       ∙ sym (without_here b (blobs_by g t) i (omega (arith, length_blobs g t)) before (number_at g t i h.within ∙ h.number))
+
+  -- where the other blobs, g before, are h after
+  pub gone_but : (g h : Row → Blob) (b : ℕ) → Here b t i → ((k : ℕ) → k < t.count → (k ≡ i → ⊥) → h (row_at t k) ≡ g (row_at t k)) → blobs_by h u ≡ without b (blobs_by g t)
+  gone_but g h b at others =
+      let x = entry_by h (row_at t i) in
+      let xs = blobs_by g t in
+      let same : blobs_by h t ≡ set xs i x = set_blob t i (row_at t i) t (sym (set-get_or t.rows i none)) refl g h l others in
+      ap (map (entry_by h)) live_gone
+      ∙ map_removed (entry_by h) (live t) i
+      ∙ ap (λ (ys : Blobs). remove ys i) same
+      ∙ ap (λ (ys : Blobs). ys ++ drop (suc i) (set xs i x)) (take-set xs i x)
+      ∙ ap (λ (ys : Blobs). take i xs ++ ys) (drop-set-lt (suc i) xs i x (omega arith))
+      ∙ sym (ap (map (entry_by g)) live_gone ∙ map_removed (entry_by g) (live t) i)
+      ∙ gone g b at
 
   pub each_gone : (P : Row → Type 0) → Each P (live t) → Each P (live u)
   each_gone P h = subst (Each P) (sym live_gone) (removed_each P none (live t) i (omega (arith, length_rows t)) h)

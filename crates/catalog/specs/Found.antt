@@ -1,5 +1,7 @@
 -- What a lookup by number tells.
-use Rattle.std.specs.Prelude.{◌≡◌, ℕ, ◌^◌, ◌<◌, ◌≤◌, Some, None, Option, slice_index}
+use Rattle.std.specs.Prelude.{◌≡◌, ℕ, ◌^◌, ◌<◌, ◌≤◌, Some, None, Ok, Err, Option, Result, slice_index}
+use Rattle.store.specs.declared.cause.Cause.{Cause}
+use Rattle.store.specs.declared.cause.Cause.TheVariants.{Missing}
 use Rattle.store.specs.Disk.{Blob, find}
 use Rattle.catalog.specs.declared.row.Row.{Row}
 use Rattle.catalog.specs.declared.table.Table.{Table}
@@ -18,3 +20,7 @@ pub record Here (b : ℕ) (t : Table) (i : ℕ) : Type 0 where
 abbrev pub FoundAt : ℕ → Table → Option ℕ → Type 0
 FoundAt b t None = (g : Row → Blob) → find (blobs_by g t) b ≡ None
 FoundAt b t (Some i) = Here b t i
+
+abbrev pub FoundOr : ℕ → Table → Result ℕ Cause → Type 0
+FoundOr b t (Ok i) = Here b t i
+FoundOr b t (Err c) = (c ≡ Missing) × ((g : Row → Blob) → find (blobs_by g t) b ≡ None)

@@ -1,5 +1,5 @@
 -- What a store with this catalog means, where content says which bytes stand at a place, and room what room is left among given blobs.
-use Rattle.std.specs.Prelude.{◌≡◌, ℕ, ◌<◌, true, List, length, Option, Result}
+use Rattle.std.specs.Prelude.{◌≡◌, ℕ, ◌+◌, ◌<◌, true, List, length, Ok, Err, Option, Result}
 use Rattle.store.specs.declared.cause.Cause.{Cause}
 use Rattle.store.specs.Built.{Counts}
 use Rattle.store.specs.declared.keys.Key.{Key}
@@ -38,6 +38,19 @@ abbrev pub Called : {A : Type 0} → Op → Catalog → Result A Cause → Catal
 Called o c r d =
     (content : Content) (room : Blobs → ℕ → ℕ) → Stands content c.table
     → Wrote o (view_by content room c) r (view_by content room d) × Counts (view_by content room c) c.calls r (view_by content room d) d.calls
+
+-- a writing call begins: nothing is changed while the power is on and a call is left, and otherwise it is stopped, whatever call it is
+abbrev pub Begun : {A : Type 0} → Catalog → Result A Cause → Catalog → Type 0
+Begun {A} c (Ok x) d = (d ≡ c) × (c.up ≡ true) × (0 < c.calls)
+Begun {A} c (Err e) d = (d.table ≡ c.table) × ((o : Op) → Called {A = A} o c (Err e) d)
+
+-- a call more is counted
+pub record OneFewer (c d : Catalog) : Type 0 where
+  pub table : d.table ≡ c.table
+  pub present : d.present ≡ c.present
+  pub saved : d.saved ≡ c.saved
+  pub up : d.up ≡ c.up
+  pub calls : c.calls ≡ d.calls + 1
 
 pub record Revived (c : Catalog) (n : ℕ) (d : Catalog) : Type 0 where
   pub table : d.table ≡ c.table

@@ -1,4 +1,6 @@
 // What every built store keeps beside its memory: the table, the keys, and the power.
+ghost use Rattle.std.specs.Prelude.{◌≡◌, true};
+ghost use Rattle.store.specs.Disk.{no_keys};
 ghost use Rattle.store.specs.Laws.{KeysFit};
 
 use crate::table::Table;
@@ -14,4 +16,23 @@ pub struct Catalog {
     pub calls: u64,
     ghost held: { KeysFit present },
     ghost kept: { KeysFit saved },
+}
+
+impl Catalog {
+    // No key, and the power on for so many writing calls.
+    pub fn new(table: Table, calls: u64) -> Catalog
+        ensures table { result.table ≡ table }
+        ensures present { result.present ≡ no_keys }
+        ensures saved { result.saved ≡ no_keys }
+        ensures up { result.up ≡ true }
+        ensures calls { result.calls ≡ calls }
+    {
+        Catalog {
+            table,
+            present: Keys::none(),
+            saved: Keys::none(),
+            up: true,
+            calls,
+        }
+    }
 }

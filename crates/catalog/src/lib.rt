@@ -5,6 +5,7 @@ pub mod ask;
 pub mod catalog;
 pub mod edits;
 pub mod find;
+pub mod power;
 pub mod row;
 pub mod table;
 pub mod write;

@@ -3,7 +3,7 @@ ghost use Rattle.std.specs.Prelude.{◌≡◌, ◌+◌, ◌^◌, ◌<◌};
 ghost use Rattle.catalog.specs.Rows.{grown_row, cut_row, synced_row};
 
 // `place` is where the bytes begin, a part or a first sector, and `tail` the last sector of a chain.
-#[derive(Clone, Copy)]
+#[derive(Clone, Copy, Default)]
 pub struct Row {
     pub number: u64,
     pub place: usize,

@@ -2,7 +2,7 @@
 ghost use Rattle.std.specs.Prelude.{◌≡◌, ◌<◌, false};
 ghost use Rattle.store.specs.Disk.{Op, Sync, Put, DropKey, SyncKeys};
 ghost use Rattle.catalog.specs.Blobs.{SameRows};
-ghost use Rattle.catalog.specs.Seen.{Called, Revived, KeySet};
+ghost use Rattle.catalog.specs.Seen.{Called, KeySet};
 
 use crate::catalog::Catalog;
 use store::cause::Cause;
@@ -23,63 +23,38 @@ impl Catalog {
         ensures called { Called (Sync b) self.old result self.new }
         ensures rows { SameRows self.old.table self.new.table }
     {
-        if !self.up || self.calls == 0 {
-            return self.stop();
-        }
-        let Some(i) = self.table.find(b) else {
-            return Err(Cause::Missing);
-        };
+        self.begin()?;
+        let i = self.find(b)?;
         let row = self.table.rows[i];
         self.table.change(i, row.synced());
-        self.calls -= 1;
-        Ok(())
+        self.finish()
     }
 
     pub fn put(&mut self, k: Key, v: u64) -> Result<(), Cause>
         ensures called { Called (Put k v) self.old result self.new }
         ensures table { self.new.table ≡ self.old.table }
     {
-        if !self.up || self.calls == 0 {
-            return self.stop();
-        }
+        self.begin()?;
         self.present = self.present.with(k, Some(v));
-        self.calls -= 1;
-        Ok(())
+        self.finish()
     }
 
     pub fn drop_key(&mut self, k: Key) -> Result<(), Cause>
         ensures called { Called (DropKey k) self.old result self.new }
         ensures table { self.new.table ≡ self.old.table }
     {
-        if !self.up || self.calls == 0 {
-            return self.stop();
-        }
+        self.begin()?;
         self.present = self.present.with(k, None);
-        self.calls -= 1;
-        Ok(())
+        self.finish()
     }
 
     pub fn sync_keys(&mut self) -> Result<(), Cause>
         ensures called { Called SyncKeys self.old result self.new }
         ensures table { self.new.table ≡ self.old.table }
     {
-        if !self.up || self.calls == 0 {
-            return self.stop();
-        }
-        let keys = self.present;
-        self.saved = keys;
-        self.calls -= 1;
-        Ok(())
-    }
-
-    // The power is back: the saved keys are present, and a new number of calls is given.
-    pub fn revive(&mut self, calls: u64)
-        ensures { Revived self.old calls self.new }
-    {
-        let keys = self.saved;
-        self.present = keys;
-        self.up = true;
-        self.calls = calls;
+        self.begin()?;
+        self.saved = self.present;
+        self.finish()
     }
 
     // Sets a key as it is present and as it is saved, up or down, and counts no call.

@@ -1,5 +1,8 @@
+use Rattle.std.proofs.lemmas.Result.{err_from_is_err_and}
 use Rattle.store.specs.Disk.{SyncKeys}
 use Rattle.catalog.proofs.catalog.Catalog.sync_keys.Goals as goal
 
-pub returns-then-not-self : goal.returns-then-not-self
-returns-then-not-self c = record { called = c.stop.ensures.called SyncKeys; table = c.stop.ensures.table }
+pub returns-in_err-begin-clause-called : goal.returns-in_err-begin-clause-called
+returns-in_err-begin-clause-called c =
+    let p = err_from_is_err_and c.from_residual.result c.from_residual.ensures.1 in
+    rw (p.1, p.2) (c.in_err-begin.ensures.1 SyncKeys)

@@ -1,0 +1,4 @@
+pub mod Facts
+pub mod Rewrites
+pub mod Calls
+pub mod Changes
