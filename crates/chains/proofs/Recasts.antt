@@ -1,5 +1,5 @@
 -- The chain of one row and the free chain are moved: what that makes of the blobs.
-use Rattle.std.proofs.Common.{◌≡◌, ℕ, ◌+◌, ◌-◌, ◌*◌, ◌<◌, List, ◌∷◌, length, get_or, take, Some, None, Option, vec_items, vec_len, sym, refl, ap, ◌∙◌, subst, arith}
+use Rattle.std.proofs.Common.{◌≡◌, ℕ, ◌+◌, ◌<◌, List, ◌∷◌, length, get_or, take, Some, None, Option, vec_items, vec_len, sym, refl, ap, ◌∙◌, subst, arith}
 use Rattle.std.specs.Option.{ForSome}
 use Rattle.store.specs.Disk.{Blob}
 use Rattle.store.specs.Occurs.{occurs}
@@ -7,7 +7,6 @@ use Rattle.catalog.specs.declared.row.Row.{Row}
 use Rattle.catalog.specs.declared.table.Table.{Table}
 use Rattle.catalog.specs.Rows.{none, sized}
 use Rattle.catalog.specs.Blobs.{live, row_at}
-use Rattle.catalog.specs.Seen.{blob_at}
 use Rattle.catalog.proofs.Lookup.{length_rows, row_live}
 use Rattle.sectors.specs.declared.chain.Chain.{Chain}
 use Rattle.sectors.specs.Sectors.{next_of, payload, sectors, need}
@@ -15,7 +14,6 @@ use Rattle.sectors.specs.Chains.{list, joint, Moved}
 use Rattle.built.specs.Recast.{len_at, Recast}
 use Rattle.chains.specs.declared.chains.Sectors.{Sectors}
 use Rattle.chains.specs.Cover.{chain_of, placed_row}
-use Rattle.chains.specs.Seen.{chain_bytes}
 use Rattle.chains.specs.Covering.{Chained, other_uses}
 use Rattle.chains.specs.Contents.{both_at, other_blobs}
 use Rattle.chains.specs.Changes.{placed_chain, placed_bytes, chained_changed, chained_removed}

@@ -8,7 +8,6 @@ use Rattle.store.specs.Occurs.{occurs}
 use Rattle.store.proofs.Occurs.{occurs_append}
 use Rattle.catalog.specs.declared.row.Row.{Row}
 use Rattle.catalog.specs.Rows.{none, Each, fresh_row}
-use Rattle.catalog.specs.Blobs.{live}
 use Rattle.catalog.proofs.Moves.{inserted_each, removed_each}
 use Rattle.sectors.specs.declared.chain.Chain.{Chain}
 use Rattle.sectors.specs.Sectors.{next_of, payload, once, need, Apart}

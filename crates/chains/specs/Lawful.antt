@@ -1,6 +1,6 @@
 -- The laws of blobs in sectors.
 use Rattle.std.specs.Prelude.{◌≡◌, ℕ, ◌+◌, ◌*◌, List, Some, None, vec_items, Option, refl}
-use Rattle.std.proofs.Common.{arith, ap, sym, ◌∙◌}
+use Rattle.std.proofs.Common.{arith, ap}
 use Rattle.store.specs.Disk.{Blob, find}
 use Rattle.store.specs.Built.{bytes_there}
 use Rattle.catalog.specs.declared.table.Table.{Table}

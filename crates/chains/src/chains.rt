@@ -14,3 +14,5 @@ pub struct Sectors {
     pub(crate) free: Chain,
     ghost cut: { sectors ≡ usable (vec_len memory / 64) },
 }
+
+pub type Chains = Built<Sectors>;

@@ -18,20 +18,6 @@ use sectors::payloads::{fill, read};
 use sectors::set_up::link_all;
 use store::config::BadConfig;
 
-fn new_table() -> Table
-    ensures { result.count ≡ 0 }
-{
-    let rows = [Row {
-        number: 0,
-        place: 0,
-        tail: 0,
-        len: 0,
-        sound: 0,
-        safe: 0,
-    }; 64];
-    Table { rows, count: 0 }
-}
-
 // How many of n sectors are put to use.
 fn in_use(n: usize) -> usize
     ensures { result ≡ usable n }
@@ -77,7 +63,11 @@ impl Medium for Sectors {
             sectors,
             free,
         };
-        (medium, new_table())
+        let table = Table {
+            rows: [Row::default(); 64],
+            count: 0,
+        };
+        (medium, table)
     }
 
     fn into_memory(self) -> Vec<u8> {

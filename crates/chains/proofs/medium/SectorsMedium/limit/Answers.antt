@@ -1,4 +1,4 @@
-use Rattle.std.proofs.Common.{◌+◌, ◌*◌, ◌≤◌, arith}
+use Rattle.std.proofs.Common.{arith}
 use Rattle.chains.proofs.Recasts.{few}
 use Rattle.chains.proofs.medium.SectorsMedium.limit.Goals as goal
 

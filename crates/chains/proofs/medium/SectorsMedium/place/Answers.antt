@@ -1,4 +1,4 @@
-use Rattle.std.proofs.Common.{suc, ◌∷◌, drop, vec_items, refl}
+use Rattle.std.proofs.Common.{suc, drop, vec_items, refl}
 use Rattle.chains.specs.Changes.{chained_opened}
 use Rattle.chains.proofs.medium.SectorsMedium.place.Goals as goal
 

@@ -1,9 +1,8 @@
-use Rattle.std.proofs.Common.{ℕ, ◌+◌, List, ◌++◌, length, take, vec_items, ap, sym, refl, ◌∙◌, arith, subst}
+use Rattle.std.proofs.Common.{ℕ, ◌+◌, List, ◌++◌, length, take, vec_items, ap, sym, refl, ◌∙◌, arith}
 use Rattle.std.proofs.lemmas.List.{with_items_is, take-take}
 use Rattle.catalog.specs.Blobs.{row_at}
 use Rattle.sectors.specs.declared.chain.Chain.{Chain}
-use Rattle.sectors.specs.Sectors.{need}
-use Rattle.sectors.specs.Chains.{joint, Both}
+use Rattle.sectors.specs.Chains.{joint}
 use Rattle.chains.specs.Cover.{chain_of}
 use Rattle.chains.specs.Contents.{both_at}
 use Rattle.chains.proofs.Across.{moved_as, both_as}
