@@ -3,7 +3,7 @@ use Rattle.std.proofs.lemmas.List.{take-replicate, length-take-le, length-replic
 use Rattle.sectors.specs.Sectors.{next_of, sectors}
 use Rattle.sectors.specs.Chains.{list, Filled}
 use Rattle.sectors.proofs.Paths.{apart_part, fewer}
-use Rattle.sectors.proofs.Pieces.{done, filled_none, next_sector, turn_inside, turn_in}
+use Rattle.sectors.proofs.Pieces.{done, next_sector, turn_inside, turn_in}
 use Rattle.sectors.proofs.payloads.fill.Goals as goal
 
 pub walk-s-requires : goal.walk-s-requires
@@ -11,11 +11,6 @@ walk-s-requires c =
     let mem = c.args.memory.now in
     let d = c.args.c in
     apart_part mem (sectors (c.args.at / 60) (next_of mem) d.first) (list mem d) c.requires.0 (fewer (c.args.at / 60) d.count (next_of mem) d.first (omega arith))
-
-pub loop-k-init : goal.loop-k-init
-loop-k-init c =
-    let e : 0 ≡ done c.args.at c.args.many (c.args.at / 60) = omega arith in
-    (c.walk-s.ensures, subst (λ j. Filled c.args.memory.now c.args.c c.args.at (replicate j c.args.value) c.args.memory.now) e (filled_none c.args.memory.now c.args.c c.args.at))
 
 pub copy_in-s-requires : goal.copy_in-s-requires
 copy_in-s-requires c =
@@ -51,7 +46,3 @@ loop-k-preserved c =
       subst (λ (xs : List ℕ). Filled mem d at xs c.copy_in-s.new.memory) more r,
     )
 
-pub returns : goal.returns
-returns c =
-    let e : done c.args.at c.args.many c.loop-k.k ≡ c.args.many = omega arith in
-    subst (λ n. Filled c.args.memory.now c.args.c c.args.at (replicate n c.args.value) c.loop-k.memory) e c.loop-k.invariant.1

@@ -1,5 +1,4 @@
 use Rattle.std.proofs.Common.{◌≡◌, ◌+◌, ◌-◌, ◌*◌, ◌/◌, ◌++◌, length, take, drop, sym, ap, ◌∙◌, arith}
-use Rattle.std.proofs.lemmas.List.{take_all}
 use Rattle.std.proofs.lemmas.Slice.{take-put_mid}
 use Rattle.octets.proofs.Writes.{length_part}
 use Rattle.sectors.specs.Sectors.{next_of, sectors, payload}
@@ -13,11 +12,6 @@ walk-s-requires c =
     let mem = c.args.memory.now in
     let d = c.args.c in
     apart_part mem (sectors (c.args.at / 60) (next_of mem) d.first) (list mem d) c.requires.0 (fewer (c.args.at / 60) d.count (next_of mem) d.first (omega arith))
-
-pub loop-k-init : goal.loop-k-init
-loop-k-init c =
-    let e : done c.args.at (length c.args.out.now) (c.args.at / 60) ≡ 0 = omega arith in
-    (c.walk-s.ensures, ap (λ j. take j c.args.out.now) e ∙ sym (ap (λ j. take j (drop c.args.at (joint c.args.memory.now c.args.c))) e))
 
 pub copy_out-s-requires : goal.copy_out-s-requires
 copy_out-s-requires c =
@@ -55,9 +49,3 @@ loop-k-preserved c =
           ∙ sym r,
     )
 
-pub returns : goal.returns
-returns c =
-    let n = length c.args.out.now in
-    let e : done c.args.at n c.loop-k.k ≡ n = omega arith in
-    sym (take_all n c.loop-k.out (omega (arith, c.loop-k.auto.out))) ∙ sym (ap (λ j. take j c.loop-k.out) e) ∙ c.loop-k.invariant.1
-    ∙ ap (λ j. take j (drop c.args.at (joint c.args.memory.now c.args.c))) e

@@ -1,10 +1,10 @@
 use Rattle.std.proofs.Common.{◌≡◌, ℕ, ◌+◌, ◌-◌, ◌/◌, List, ◌++◌, length, take, drop, sym, ap, ◌∙◌, subst, arith}
-use Rattle.std.proofs.lemmas.List.{take_all, length-take-le}
+use Rattle.std.proofs.lemmas.List.{length-take-le}
 use Rattle.octets.proofs.Writes.{length_part}
 use Rattle.sectors.specs.Sectors.{next_of, sectors}
 use Rattle.sectors.specs.Chains.{list, Filled}
 use Rattle.sectors.proofs.Paths.{apart_part, fewer}
-use Rattle.sectors.proofs.Pieces.{take_add, done, filled_none, next_sector, turn_inside, turn_in}
+use Rattle.sectors.proofs.Pieces.{take_add, done, next_sector, turn_inside, turn_in}
 use Rattle.sectors.proofs.payloads.write.Goals as goal
 
 pub walk-s-requires : goal.walk-s-requires
@@ -12,11 +12,6 @@ walk-s-requires c =
     let mem = c.args.memory.now in
     let d = c.args.c in
     apart_part mem (sectors (c.args.at / 60) (next_of mem) d.first) (list mem d) c.requires.0 (fewer (c.args.at / 60) d.count (next_of mem) d.first (omega arith))
-
-pub loop-k-init : goal.loop-k-init
-loop-k-init c =
-    let e : 0 ≡ done c.args.at (length c.args.bytes.now) (c.args.at / 60) = omega arith in
-    (c.walk-s.ensures, subst (λ j. Filled c.args.memory.now c.args.c c.args.at (take j c.args.bytes.now) c.args.memory.now) e (filled_none c.args.memory.now c.args.c c.args.at))
 
 pub copy_in-s-requires : goal.copy_in-s-requires
 copy_in-s-requires c =
@@ -52,8 +47,3 @@ loop-k-preserved c =
       subst (λ (xs : List ℕ). Filled mem d at xs c.copy_in-s.new.memory) more r,
     )
 
-pub returns : goal.returns
-returns c =
-    let bs = c.args.bytes.now in
-    subst (λ (xs : List ℕ). Filled c.args.memory.now c.args.c c.args.at xs c.loop-k.memory) (take_all (done c.args.at (length bs) c.loop-k.k) bs (omega arith))
-    c.loop-k.invariant.1

@@ -1,23 +1,7 @@
-use Rattle.std.proofs.Common.{◌≡◌, ◌+◌, ◌-◌, ◌≤◌, ◌⊎◌, sym, refl, ap, ◌∙◌, inl, inr, arith}
-use Rattle.std.proofs.lemmas.Bool.{cases_eq}
+use Rattle.std.proofs.Common.{◌≡◌, ◌-◌, ◌≤◌, ◌⊎◌, sym, refl, ◌∙◌, inl, inr, arith}
 use Rattle.sectors.specs.Sectors.{next_of}
 use Rattle.sectors.proofs.Lines.{Rises, all_once, line_stands, once_none}
 use Rattle.sectors.proofs.set_up.link_all.Goals as goal
-
-pub loop-s-preserved : goal.loop-s-preserved
-loop-s-preserved c =
-    let s = c.loop-s.s in
-    let e = c.set_next.ensures in
-    let i = c.loop-s.invariant in
-    let new = next_of c.set_next.new.memory in (
-      λ q a b. elim (cases_eq q s) [
-        | inl z ↦ ap new z ∙ e.here ∙ ap (λ n. n + 1) (sym z)
-        | inr z ↦ e.others q z ∙ i.0 q a (omega arith)
-      ],
-      λ q. e.payloads q ∙ i.1 q,
-      λ q o. e.others q (λ z. elim o [ inl x ↦ omega (arith, c.loop-s.auto.s) | inr x ↦ omega arith ])
-          ∙ i.2 q (elim o [ inl x ↦ inl x | inr x ↦ inr (omega arith) ]),
-    )
 
 pub returns : goal.returns
 returns c =
