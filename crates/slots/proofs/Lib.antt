@@ -1,4 +1,1 @@
-pub mod Change
-pub mod Outside
-pub mod Settles
-pub mod Images
+pub mod Recasts

@@ -1,9 +1,4 @@
-pub mod Parts
-pub mod Seen
-pub mod Found
-pub mod Untouched
-pub mod Settled
-pub mod Made
-pub mod Lookup
 pub mod Shares
 pub mod Memory
+pub mod Layout
+pub mod Laws

@@ -1,4 +1,4 @@
--- The parts of the rows: each of the 64 at most once.
+-- The parts of all rows, in use or free: each of the 64 at most once, and nothing else.
 use Rattle.std.specs.Prelude.{◌≡◌, ℕ, suc, ◌+◌, ◌<◌, ◌≤◌, Bool, true, false, cond, List, [], ◌∷◌, ◌++◌, length, drop, ◌≢◌, nat_lt, slice_index, slice_index_or, refl}
 use Rattle.std.proofs.Common.{arith, add-one, sym, ap, ◌∙◌}
 use Rattle.std.specs.List.{insert, remove}
@@ -11,13 +11,15 @@ use Rattle.catalog.specs.declared.table.Table.{Table}
 use Rattle.catalog.specs.Rows.{none, places_of, fresh_row}
 use Rattle.catalog.specs.Blobs.{live, row_at}
 use Rattle.catalog.proofs.Moves.{map_inserted, map_removed, occurs_inserted, occurs_removed}
-use Rattle.slots.specs.Parts.{Parts}
+
+abbrev pub EachOnce : List ℕ → Type 0
+EachOnce ps = (p : ℕ) → occurs p ps ≤ cond (nat_lt p 64) 1 0
 
 pub at_most_one : (b : Bool) → cond b 1 0 ≤ 1
 at_most_one true = omega arith
 at_most_one false = omega arith
 
-pub part_below : (ps : List ℕ) → Parts ps → (k : ℕ) → k < length ps → slice_index ps k < 64
+pub part_below : (ps : List ℕ) → EachOnce ps → (k : ℕ) → k < length ps → slice_index ps k < 64
 part_below ps h k l = by_test (nat_lt (slice_index ps k) 64) refl
   where
     by_test : (t : Bool) → nat_lt (slice_index ps k) 64 ≡ t → slice_index ps k < 64
@@ -27,13 +29,13 @@ part_below ps h k l = by_test (nat_lt (slice_index ps k) 64) refl
         let q : occurs (slice_index ps k) ps ≤ 0 = simp e at (h (slice_index ps k)) in
         absurd (omega arith)
 
-pub part_twice : (ps : List ℕ) → Parts ps → (j k : ℕ) → j < k → k < length ps → slice_index ps j ≢ slice_index ps k
+pub part_twice : (ps : List ℕ) → EachOnce ps → (j k : ℕ) → j < k → k < length ps → slice_index ps j ≢ slice_index ps k
 part_twice ps h j k m l e =
     let o = occurs_twice (slice_index ps j) ps j k m l refl (sym e) in
     omega (arith, h (slice_index ps j), at_most_one (nat_lt (slice_index ps j) 64))
 
 -- row k has part k
-pub parts_new : (ps : List ℕ) → length ps ≡ 64 → ((k : ℕ) → k < 64 → slice_index ps k ≡ k) → Parts ps
+pub parts_new : (ps : List ℕ) → length ps ≡ 64 → ((k : ℕ) → k < 64 → slice_index ps k ≡ k) → EachOnce ps
 parts_new ps n h p = by_test (nat_lt p 64) refl
   where
     by_test : (t : Bool) → nat_lt p 64 ≡ t → occurs p ps ≤ cond (nat_lt p 64) 1 0
@@ -45,8 +47,8 @@ parts_new ps n h p = by_test (nat_lt p 64) refl
 places_append : (xs ys : List Row) → places_of (xs ++ ys) ≡ places_of xs ++ places_of ys
 places_append xs ys = map-append (λ (r : Row). r.place) xs ys
 
-pub parts_inserted : (t : Table) (i b : ℕ) (rs : List Row) → t.count < 64 → Parts (places_of t.rows)
-    → rs ≡ insert (live t) i (fresh_row b (row_at t t.count).place) ++ drop (suc t.count) t.rows → Parts (places_of rs)
+pub parts_inserted : (t : Table) (i b : ℕ) (rs : List Row) → t.count < 64 → EachOnce (places_of t.rows)
+    → rs ≡ insert (live t) i (fresh_row b (row_at t t.count).place) ++ drop (suc t.count) t.rows → EachOnce (places_of rs)
 parts_inserted t i b rs few h rows p =
     let n = t.count in
     let L = live t in
@@ -63,8 +65,8 @@ parts_inserted t i b rs few h rows p =
     ∙ occurs_append p (places_of L) (y ∷ places_of C) in
     omega (arith, h p, occurs_inserted p (places_of L) i y)
 
-pub parts_removed : (t : Table) (i : ℕ) (rs : List Row) → i < t.count → Parts (places_of t.rows)
-    → rs ≡ remove (live t) i ++ row_at t i ∷ drop t.count t.rows → Parts (places_of rs)
+pub parts_removed : (t : Table) (i : ℕ) (rs : List Row) → i < t.count → EachOnce (places_of t.rows)
+    → rs ≡ remove (live t) i ++ row_at t i ∷ drop t.count t.rows → EachOnce (places_of rs)
 parts_removed t i rs l h rows p =
     let n = t.count in
     let L = live t in
