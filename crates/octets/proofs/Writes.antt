@@ -1,11 +1,20 @@
 -- What a write leaves of a part of the memory.
 use Rattle.std.proofs.Common.{◌≡◌, ℕ, ◌+◌, ◌-◌, ◌<◌, ◌≤◌, ◌⊎◌, List, ◌++◌, length, get_or, take, drop, sym, refl, ap, ◌∙◌, inl, inr, arith, length-append, length-drop, length-take}
-use Rattle.std.proofs.lemmas.List.{same_lists, get_or_append_left, get_or-append_right, get_or-take, get_or-drop, length-take-le}
+use Rattle.std.proofs.lemmas.List.{drop-take, take-take, drop-drop, same_lists, get_or_append_left, get_or-append_right, get_or-take, get_or-drop, length-take-le}
 use Rattle.std.proofs.lemmas.Bool.{cases_lt}
 use Rattle.octets.specs.Written.{written}
 
 pub length_part : (mem : List ℕ) (a n : ℕ) → a + n ≤ length mem → length (take n (drop a mem)) ≡ n
 length_part mem a n h = simp (length-take, length-drop) (omega arith)
+
+-- bytes of a part are bytes of the whole
+pub bytes_of : (mem : List ℕ) (a len at n : ℕ) → at + n ≤ len → take n (drop at (take len (drop a mem))) ≡ take n (drop (a + at) mem)
+bytes_of mem a len at n l =
+    let e : len ≡ at + (len - at) = omega arith in
+    ap (λ k. take n (drop at (take k (drop a mem)))) e
+    ∙ ap (take n) (drop-take at (len - at) (drop a mem))
+    ∙ take-take n (len - at) (drop at (drop a mem)) (omega arith)
+    ∙ ap (take n) (drop-drop at a mem)
 
 module _ (mem : List ℕ) (at : ℕ) (bs : List ℕ) (fits : at + length bs ≤ length mem) where
   pub length_written : length (written mem at bs) ≡ length mem

@@ -1,5 +1,5 @@
 -- Sectors that go from the free chain to a chain, or back.
-use Rattle.std.proofs.Common.{◌≡◌, ℕ, zero, suc, ◌+◌, ◌*◌, ◌/◌, ◌≤◌, min, List, [], ◌∷◌, ◌++◌, length, take, sym, refl, ap, ◌∙◌, subst, arith}
+use Rattle.std.proofs.Common.{◌≡◌, ℕ, zero, suc, ◌+◌, ◌*◌, ◌/◌, ◌≤◌, min, List, [], ◌∷◌, ◌++◌, length, take, sym, refl, ap, ◌∙◌, subst, arith, take-add}
 use Rattle.std.specs.List.{flat_map}
 use Rattle.std.proofs.lemmas.List.{take_at, drop_at}
 use Rattle.store.specs.Occurs.{occurs}
@@ -8,7 +8,7 @@ use Rattle.sectors.specs.declared.chain.Chain.{Chain}
 use Rattle.sectors.specs.Sectors.{next_of, payload, once, Apart}
 use Rattle.sectors.specs.Chains.{list, joint, Stands, Both, Joined, Split, Moved, uses}
 use Rattle.sectors.proofs.Paths.{chain_same, last_same, apart_part, at_most_once, length_sectors}
-use Rattle.sectors.proofs.Pieces.{Sixties, sixties, joined_same, take_add}
+use Rattle.sectors.proofs.Pieces.{Sixties, sixties, joined_same}
 
 -- a chain whose next numbers are as they were stands as it stood
 pub stands_same : (mem new : List ℕ) (c : Chain) → ((q : ℕ) → 1 ≤ occurs q (list mem c) → next_of new q ≡ next_of mem q) → Stands mem c
@@ -152,7 +152,7 @@ joined_take P (x ∷ xs) (suc k) h l =
     ap (λ ys. P x ++ ys) (joined_take P xs k (λ q m. h q (omega arith)) (omega arith))
     ∙ ap (λ ys. ys ++ take (60 * k) (flat_map P xs)) (sym (take_at (P x) (flat_map P xs) 60 p))
     ∙ ap (λ ys. take 60 (P x ++ flat_map P xs) ++ take (60 * k) ys) (sym (drop_at (P x) (flat_map P xs) 60 p))
-    ∙ sym (take_add 60 (60 * k) (P x ++ flat_map P xs))
+    ∙ sym (take-add 60 (60 * k) (P x ++ flat_map P xs))
     ∙ ap (λ n. take n (P x ++ flat_map P xs)) (let e : 60 + 60 * k ≡ 60 * suc k = omega arith in e)
 
 -- the bytes of a chain whose list is the front of another's

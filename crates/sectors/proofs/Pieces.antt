@@ -1,7 +1,7 @@
 -- Bytes of a chain and bytes of its sectors.
-use Rattle.std.proofs.Common.{◌≡◌, ℕ, zero, suc, ◌+◌, ◌-◌, ◌*◌, ◌/◌, ◌%◌, ◌<◌, ◌≤◌, min, List, [], ◌∷◌, ◌++◌, length, get_or, take, drop, sym, refl, ap, ◌∙◌, subst, arith, length-append, length-drop, max, add-one}
+use Rattle.std.proofs.Common.{◌≡◌, ℕ, zero, suc, ◌+◌, ◌-◌, ◌*◌, ◌/◌, ◌%◌, ◌<◌, ◌≤◌, min, List, [], ◌∷◌, ◌++◌, length, get_or, take, drop, sym, refl, ap, ◌∙◌, subst, arith, length-append, length-drop, max, add-one, take-add}
 use Rattle.std.specs.List.{flat_map}
-use Rattle.std.proofs.lemmas.List.{append_assoc, take-append-drop, take-take, take_at, take-append-le, drop-take, drop-drop, drop_at, drop-append-le, length-take-le}
+use Rattle.std.proofs.lemmas.List.{append_assoc, take-append-drop, take_at, take-append-le, drop-drop, drop_at, drop-append-le, length-take-le}
 use Rattle.store.specs.Occurs.{occurs}
 use Rattle.octets.specs.Written.{written}
 use Rattle.store.proofs.Occurs.{occurs_self, occurs_at}
@@ -12,20 +12,6 @@ use Rattle.sectors.proofs.Links.{length_payload}
 use Rattle.sectors.proofs.Paths.{inside, at_most_once, length_sectors, after_in, after_more}
 
 -- lists -------------------------------------------------------------------------------------------
-
-pub take_add : (a b : ℕ) (xs : List ℕ) → take (a + b) xs ≡ take a xs ++ take b (drop a xs)
-take_add a b xs =
-    sym (take-append-drop a (take (a + b) xs)) ∙ ap (λ ys. ys ++ drop a (take (a + b) xs)) (take-take a (a + b) xs (omega arith))
-    ∙ ap (λ ys. take a xs ++ ys) (drop-take a b xs)
-
--- bytes of a part are bytes of the whole
-pub bytes_of : (mem : List ℕ) (a len at n : ℕ) → at + n ≤ len → take n (drop at (take len (drop a mem))) ≡ take n (drop (a + at) mem)
-bytes_of mem a len at n l =
-    let e : len ≡ at + (len - at) = omega arith in
-    ap (λ k. take n (drop at (take k (drop a mem)))) e
-    ∙ ap (take n) (drop-take at (len - at) (drop a mem))
-    ∙ take-take n (len - at) (drop at (drop a mem)) (omega arith)
-    ∙ ap (take n) (drop-drop at a mem)
 
 pub written_none : (mem : List ℕ) (at : ℕ) → written mem at [] ≡ mem
 written_none mem at = ap (λ k. take at mem ++ drop k mem) (let e : at + 0 ≡ at = omega arith in e) ∙ take-append-drop at mem
@@ -61,7 +47,7 @@ drop_right xs ys n at e = sym (drop-drop at n (xs ++ ys)) ∙ ap (drop at) (drop
 pub written_right : (xs ys : List ℕ) (n at : ℕ) (bs : List ℕ) → length xs ≡ n → written (xs ++ ys) (n + at) bs ≡ xs ++ written ys at bs
 written_right xs ys n at bs e =
     ap (λ zs. zs ++ (bs ++ drop (n + at + length bs) (xs ++ ys)))
-    (take_add n at (xs ++ ys) ∙ ap (λ zs. zs ++ take at (drop n (xs ++ ys))) (take_at xs ys n e) ∙ ap (λ zs. xs ++ take at zs) (drop_at xs ys n e))
+    (take-add n at (xs ++ ys) ∙ ap (λ zs. zs ++ take at (drop n (xs ++ ys))) (take_at xs ys n e) ∙ ap (λ zs. xs ++ take at zs) (drop_at xs ys n e))
     ∙ ap (λ zs. (xs ++ take at ys) ++ (bs ++ zs))
     (ap (λ k. drop k (xs ++ ys)) (let z : n + at + length bs ≡ n + (at + length bs) = omega arith in z) ∙ drop_right xs ys n (at + length bs) e)
     ∙ append_assoc xs (take at ys) (bs ++ drop (at + length bs) ys)
@@ -217,7 +203,7 @@ module _ (mem : List ℕ) (d : Chain) (at n k from to s : ℕ) (h : Apart mem (l
       let b : at + done at n k ≡ from = omega arith in
       let e : from % 60 ≡ from - 60 * k = omega arith in
       ap (λ j. take j (drop at (joint mem d))) a
-      ∙ take_add (done at n k) (to - from) (drop at (joint mem d))
+      ∙ take-add (done at n k) (to - from) (drop at (joint mem d))
       ∙ ap (λ ys. take (done at n k) (drop at (joint mem d)) ++ take (to - from) ys) (drop-drop (done at n k) at (joint mem d) ∙ ap (λ j. drop j (joint mem d)) b)
       ∙ ap (λ ys. take (done at n k) (drop at (joint mem d)) ++ ys)
       (piece mem d from (to - from) s h (omega (arith, at_k, inside_chain)) (omega arith) here_at

@@ -60,13 +60,7 @@ pub fn append(memory: &mut [u8], free: &mut Chain, chain: Chain, len: usize, byt
 }
 
 // The first `kept` bytes of a chain stay, and these follow them. Sectors come from the free chain or go back to it.
-pub fn recast(
-    memory: &mut [u8],
-    free: &mut Chain,
-    chain: Chain,
-    kept: usize,
-    bytes: &[u8],
-) -> Chain
+pub fn recast(memory: &mut [u8], free: &mut Chain, chain: Chain, kept: usize, bytes: &[u8]) -> Chain
     requires both { Both memory.old chain free.old }
     requires within { need kept ≤ chain.count }
     requires room { kept + length bytes.now ≤ 60 * (chain.count + free.old.count) }

@@ -8,4 +8,3 @@ below_last n i l m = let p : 256 ^ i ≤ 256 ^ 7 = pow-le-pow_right (omega arith
 
 pub overflow_mul-n : goal.overflow_mul-n
 overflow_mul-n c = let l = below_last c.loop-b.n c.loop-b.b-index c.loop-b.invariant.1 (omega arith) in omega arith
-

@@ -45,4 +45,3 @@ loop-k-preserved c =
       next_sector mem d k c.loop-k.s c.copy_in-s.result i.0 (c.copy_in-s.ensures.next ∙ i.1.nexts c.loop-k.s),
       subst (λ (xs : List ℕ). Filled mem d at xs c.copy_in-s.new.memory) more r,
     )
-

@@ -48,4 +48,3 @@ loop-k-preserved c =
           ∙ ap (λ ys. take a (drop at (joint mem d)) ++ ys) got
           ∙ sym r,
     )
-

@@ -1,10 +1,10 @@
-use Rattle.std.proofs.Common.{◌≡◌, ℕ, ◌+◌, ◌-◌, ◌/◌, List, ◌++◌, length, take, drop, sym, ap, ◌∙◌, subst, arith}
+use Rattle.std.proofs.Common.{◌≡◌, ℕ, ◌+◌, ◌-◌, ◌/◌, List, ◌++◌, length, take, drop, sym, ap, ◌∙◌, subst, arith, take-add}
 use Rattle.std.proofs.lemmas.List.{length-take-le}
 use Rattle.octets.proofs.Writes.{length_part}
 use Rattle.sectors.specs.Sectors.{next_of, sectors}
 use Rattle.sectors.specs.Chains.{list, Filled}
 use Rattle.sectors.proofs.Paths.{apart_part, fewer}
-use Rattle.sectors.proofs.Pieces.{take_add, done, next_sector, turn_inside, turn_in}
+use Rattle.sectors.proofs.Pieces.{done, next_sector, turn_inside, turn_in}
 use Rattle.sectors.proofs.payloads.write.Goals as goal
 
 pub walk-s-requires : goal.walk-s-requires
@@ -39,11 +39,10 @@ loop-k-preserved c =
     let e : from - at ≡ done at n k = omega arith in
     let f : done at n k + j ≡ done at n (k + 1) = omega arith in
     let more : take (done at n k) bs ++ take j (drop (from - at) bs) ≡ take (done at n (k + 1)) bs =
-    ap (λ m. take (done at n k) bs ++ take j (drop m bs)) e ∙ sym (take_add (done at n k) j bs) ∙ ap (λ m. take m bs) f in
+    ap (λ m. take (done at n k) bs ++ take j (drop m bs)) e ∙ sym (take-add (done at n k) j bs) ∙ ap (λ m. take m bs) f in
     let r = turn_in mem d at n k from to c.loop-k.s c.requires.0 c.requires.1 (omega arith) (omega arith) c.max-from.ensures c.min-to.ensures i.0
     (take (done at n k) bs) c.loop-k.memory (take j (drop (from - at) bs)) c.copy_in-s.new.memory c.loop-k.auto.memory
     (length-take-le (done at n k) bs (omega arith)) (omega arith) i.1 c.copy_in-s.ensures.stored in (
       next_sector mem d k c.loop-k.s c.copy_in-s.result i.0 (c.copy_in-s.ensures.next ∙ i.1.nexts c.loop-k.s),
       subst (λ (xs : List ℕ). Filled mem d at xs c.copy_in-s.new.memory) more r,
     )
-

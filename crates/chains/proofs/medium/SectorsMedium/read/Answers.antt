@@ -2,7 +2,7 @@ use Rattle.std.proofs.Common.{ℕ, List, length, take, drop, vec_items, ap, sym,
 use Rattle.catalog.specs.Blobs.{row_at}
 use Rattle.sectors.specs.declared.chain.Chain.{Chain}
 use Rattle.sectors.specs.Chains.{joint}
-use Rattle.sectors.proofs.Pieces.{bytes_of}
+use Rattle.octets.proofs.Writes.{bytes_of}
 use Rattle.chains.specs.Cover.{chain_of}
 use Rattle.chains.specs.Contents.{both_at}
 use Rattle.chains.proofs.Across.{apart_as, alone}
