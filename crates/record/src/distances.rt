@@ -21,7 +21,7 @@ impl Record for Distance {
 
     ghost back = { Prim.search rules };
 
-    ghost again = { λ bs x h e. distance_again bs x h e };
+    ghost again = { distance_again };
 
     ghost long = { Prim.search rules };
 
