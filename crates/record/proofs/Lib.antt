@@ -1,1 +1,3 @@
 pub mod Lent
+pub mod Calls
+pub mod Equal

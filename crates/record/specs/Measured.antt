@@ -3,39 +3,17 @@ use Rattle.std.specs.Prelude.{◌≡◌, ℕ, Bool, true, false, List, [], ◌�
 use Rattle.std.proofs.Common.{arith, sym, ap, ◌∙◌}
 use Rattle.std.proofs.lemmas.List.{take-append-drop, drop-drop, drop_more, drop_all}
 use Rattle.std.proofs.lemmas.Bool.{eqb-true}
+use Rattle.std.proofs.lemmas.Bool.Decides.{nat_tests}
 use Rattle.octets.specs.BigEndian.{digits, number_of, Bytes}
 use Rattle.octets.proofs.BigEndian.{digits_part}
 use Rattle.record.specs.declared.distance.Grade.{Grade}
-use Rattle.record.specs.declared.distance.Grade.TheVariants.{Zero, One, Two, Three}
 use Rattle.record.specs.declared.distance.Distance.{Distance}
 use Rattle.record.specs.Grades.{grade_number, grade_of}
 use Rattle.record.specs.Distances.{encode_distance, graded, decode_distance}
 
-none : {A : Type 0} {P : Type 0} (x : A) → ◌≡◌ {A = Option A} None (Some x) → P
-none x e = let z : ◌≡◌ {A = ℕ} 0 1 = cc in absurd (omega arith)
-
 -- a grade has the number that it was read from
 grade_back : (n : ℕ) (g : Grade) → grade_of n ≡ Some g → grade_number g ≡ n
-grade_back n g e = at_zero (n == 0) refl
-  where
-    same : (y : Grade) → Some y ≡ Some g → grade_number g ≡ grade_number y
-    same y q = let z : y ≡ g = cc in ap grade_number (sym z)
-
-    at_three : (t : Bool) → (n == 0) ≡ false → (n == 1) ≡ false → (n == 2) ≡ false → (n == 3) ≡ t → grade_number g ≡ n
-    at_three true a b c d = same Three (simp (a, b, c, d) at e) ∙ sym (eqb-true n 3 d)
-    at_three false a b c d = none g (simp (a, b, c, d) at e)
-
-    at_two : (t : Bool) → (n == 0) ≡ false → (n == 1) ≡ false → (n == 2) ≡ t → grade_number g ≡ n
-    at_two true a b c = same Two (simp (a, b, c) at e) ∙ sym (eqb-true n 2 c)
-    at_two false a b c = at_three (n == 3) a b c refl
-
-    at_one : (t : Bool) → (n == 0) ≡ false → (n == 1) ≡ t → grade_number g ≡ n
-    at_one true a b = same One (simp (a, b) at e) ∙ sym (eqb-true n 1 b)
-    at_one false a b = at_two (n == 2) a b refl
-
-    at_zero : (t : Bool) → (n == 0) ≡ t → grade_number g ≡ n
-    at_zero true a = same Zero (simp a at e) ∙ sym (eqb-true n 0 a)
-    at_zero false a = at_one (n == 1) a refl
+grade_back n g e = grind (arith, nat_tests)
 
 module _ (bs : List ℕ) (x : Distance) (h : Bytes bs) where
   whole : (g : Grade) → length bs ≡ 7 → grade_number g ≡ slice_index bs 6
@@ -51,7 +29,7 @@ module _ (bs : List ℕ) (x : Distance) (h : Bytes bs) where
       ∙ take-append-drop 4 bs
 
   by_grade : (o : Option Grade) → grade_of (slice_index bs 6) ≡ o → length bs ≡ 7 → graded bs o ≡ Some x → encode_distance x ≡ bs
-  by_grade None q n e = none x e
+  by_grade None q n e = cc
   by_grade (Some g) q n e =
       let y : Distance = record { station = number_of (take 4 bs); reading = number_of (take 2 (drop 4 bs)); grade = g } in
       let z : y ≡ x = cc in
@@ -62,4 +40,4 @@ module _ (bs : List ℕ) (x : Distance) (h : Bytes bs) where
     where
       by_test : (t : Bool) → (length bs == 7) ≡ t → encode_distance x ≡ bs
       by_test true t = by_grade (grade_of (slice_index bs 6)) refl (eqb-true (length bs) 7 t) (simp t at e)
-      by_test false t = none x (simp t at e)
+      by_test false t = let f : ◌≡◌ {A = Option Distance} None (Some x) = simp t at e in cc

@@ -6,7 +6,7 @@ ghost use Rattle.record.specs.Measured.{distance_again};
 ghost use Rattle.std.proofs.Common.{rules};
 
 use crate::distance::{Distance, Grade};
-use crate::record::Record;
+use crate::record::{Record, WrongLength};
 use octets::numbers::{get, put};
 use std::fmt;
 
@@ -21,7 +21,7 @@ impl Record for Distance {
 
     ghost back = { Prim.search rules };
 
-    ghost again = { λ bs x h e. distance_again bs x h e };
+    ghost again = { distance_again };
 
     ghost long = { Prim.search rules };
 
@@ -29,23 +29,21 @@ impl Record for Distance {
         7
     }
 
-    fn write(self, out: &mut [u8]) -> bool {
+    fn write(self, out: &mut [u8]) -> Result<(), WrongLength> {
         if out.len() != 7 {
-            return false;
+            return Err(WrongLength);
         }
         put(out, 0, self.station);
         put(out, 4, self.reading);
-        out[6] = self.grade.number();
-        true
+        out[6] = u8::from(self.grade);
+        Ok(())
     }
 
     fn read(bytes: &[u8]) -> Option<Distance> {
         if bytes.len() != 7 {
             return None;
         }
-        let Some(grade) = Grade::from_number(bytes[6]) else {
-            return None;
-        };
+        let grade = Grade::try_from(bytes[6]).ok()?;
         let station = get(bytes, 0);
         let reading = get(bytes, 4);
         Some(Distance {
@@ -62,7 +60,7 @@ impl fmt::Display for Distance {
     fn fmt<W: fmt::Write>(&self, f: &mut fmt::Formatter<W>) -> fmt::Result {
         let station = self.station;
         let reading = self.reading;
-        let grade = self.grade.number();
+        let grade = u8::from(self.grade);
         write!(f, "{station} {reading} {grade}")
     }
 }

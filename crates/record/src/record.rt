@@ -3,6 +3,10 @@ ghost use Rattle.std.specs.Prelude.{◌≡◌, ℕ, List, length, Some, Option};
 ghost use Rattle.octets.specs.BigEndian.{Bytes};
 ghost use Rattle.record.specs.Written.{WrittenTo};
 
+// The lent bytes are not as many as the record's.
+#[derive(Clone, Copy, PartialEq, Eq, Debug)]
+pub struct WrongLength;
+
 pub trait Record: Copy {
     ghost encode: { Self → List ℕ };
 
@@ -16,8 +20,8 @@ pub trait Record: Copy {
     fn size() -> usize
         ensures { result ≡ size };
 
-    // Writes the record into out, if that has as many bytes; else says false, and out stays.
-    fn write(self, out: &mut [u8]) -> bool
+    // Writes the record into out, if that has as many bytes; else out stays.
+    fn write(self, out: &mut [u8]) -> Result<(), WrongLength>
         ensures written { WrittenTo size (encode self) out.old result out.new }
         ensures fits { fits self };
 

@@ -1,11 +1,15 @@
 // Why a run is not recorded or not read back.
+ghost use Rattle.std.specs.Prelude.{◌≡◌};
+ghost use Rattle.runs.specs.declared.fault.RunFault.TheVariants.{Store, NoMemory};
+
+use std::alloc::AllocFailed;
 use store::cause::Cause;
 
-// What stopped: an append, or the sync after it, and why.
+// What stopped, an append or the sync after it, and why.
 #[derive(Clone, Copy, PartialEq, Eq, Debug)]
-pub struct Halt {
-    pub syncing: bool,
-    pub cause: Cause,
+pub enum Halt {
+    Append(Cause),
+    Sync(Cause),
 }
 
 // Where a recording stopped: at which scan.
@@ -19,4 +23,20 @@ pub struct Stopped {
 pub enum RunFault {
     Store(Cause),
     NoMemory,
+}
+
+impl From<Cause> for RunFault {
+    ghost from_gives = { λ c r. r ≡ Store c };
+
+    fn from(cause: Cause) -> RunFault {
+        RunFault::Store(cause)
+    }
+}
+
+impl<T: Drop> From<AllocFailed<T>> for RunFault {
+    ghost from_gives = { λ _ r. r ≡ NoMemory };
+
+    fn from(_failed: AllocFailed<T>) -> RunFault {
+        RunFault::NoMemory
+    }
 }

@@ -1,4 +1,4 @@
-use Rattle.std.proofs.Common.{◌≡◌, ℕ, List, [], ◌∷◌, ◌++◌, length, take, set, sym, ap, ◌∙◌, arith, rules}
+use Rattle.std.proofs.Common.{◌≡◌, ℕ, List, [], ◌∷◌, ◌++◌, length, take, set, sym, ap, ◌∙◌, arith}
 use Rattle.std.proofs.lemmas.List.{length-set, take_all, take_more_set}
 use Rattle.octets.specs.BigEndian.{digits}
 use Rattle.octets.specs.Written.{written}
@@ -6,8 +6,8 @@ use Rattle.octets.proofs.Writes.{length_written, take_written}
 use Rattle.record.specs.Grades.{grade_number}
 use Rattle.record.proofs.distances.DistanceRecord.write.Goals as goal
 
-pub returns : goal.returns
-returns c =
+pub returns-clause-written : goal.returns-clause-written
+returns-clause-written c =
     let d = c.args.self in
     let out = c.args.out.now in
     let p = digits 4 d.station in
@@ -23,4 +23,4 @@ returns c =
     let e : c.put-2.new.out ≡ two = c.put-2.ensures ∙ ap (λ (zs : List ℕ). written zs 4 q) c.put.ensures in
     let f : set two 6 g ≡ p ++ (q ++ g ∷ []) =
     sym (take_all 7 (set two 6 g) (let k = length-set two 6 g in omega arith)) ∙ take_more_set two 6 g (omega arith) ∙ ap (λ (zs : List ℕ). zs ++ g ∷ []) b in
-    record { written = (n, ap (λ (zs : List ℕ). set zs 6 c.number.result) e ∙ ap (set two 6) c.number.ensures ∙ f); fits = search rules }
+    (n, ap (λ (zs : List ℕ). set zs 6 c.from.result) e ∙ ap (set two 6) c.from.ensures ∙ f)
