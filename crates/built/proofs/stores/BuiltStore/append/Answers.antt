@@ -15,9 +15,6 @@ returns-in_err-begin-clause-called g c =
     let p = err_from_is_err_and c.from_residual.result c.from_residual.ensures.1 in
     rw (p.1, p.2) (c.in_err-begin.ensures.1 (Append c.args.b c.args.bytes.now))
 
-pub grown-requires : goal.grown-requires
-grown-requires g c = omega (arith, c.room_at.ensures.fits)
-
 pub returns-clause-called : goal.returns-clause-called
 returns-clause-called g c =
     let w = g.met.M.Medium.lawful in
