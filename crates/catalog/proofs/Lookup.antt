@@ -1,8 +1,10 @@
 -- The blobs of a table by place, and the lookup by number, for any g from rows to blobs.
-use Rattle.std.proofs.Common.{◌≡◌, ℕ, suc, ◌-◌, ◌<◌, ◌≤◌, List, [], ◌∷◌, map, length, get_or, Some, None, sym, refl, ap, ◌∙◌, subst, inl, inr, arith}
+use Rattle.std.proofs.Common.{◌≡◌, ℕ, Bool, true, false, eqb, suc, ◌<◌, ◌≤◌, List, [], ◌∷◌, map, length, get_or, Some, None, sym, refl, ap, ◌∙◌, subst, inl, inr, arith}
 use lib.ListN.{length-map}
+use Rattle.std.specs.List.Sorted.{IsNonDecreasingBy}
 use Rattle.std.proofs.lemmas.List.{get_or-map, get_or-take, length-take-le}
-use Rattle.std.proofs.lemmas.Bool.{cases_lt}
+use Rattle.std.proofs.lemmas.Bool.{cases_lt, eqb-true, eqb-false}
+use Rattle.std.specs.Bool.{then_some}
 use Rattle.store.specs.Disk.{Blob, blank, find, numbers, at_or_above, at_or_below}
 use Rattle.store.specs.Laws.{Rising}
 use Rattle.store.specs.Place.{Sought}
@@ -11,7 +13,7 @@ use Rattle.catalog.specs.declared.row.Row.{Row}
 use Rattle.catalog.specs.declared.table.Table.{Table}
 use Rattle.catalog.specs.Rows.{none, numbers_of, Ordered}
 use Rattle.catalog.specs.Blobs.{live, row_at, entry_by, blobs_by}
-use Rattle.catalog.specs.Found.{Here}
+use Rattle.catalog.specs.Found.{Here, FoundAt}
 use Rattle.catalog.proofs.Live.{number_live}
 
 numbers_map : (g : Row → Blob) (rs : List Row) → numbers (map (entry_by g) rs) ≡ numbers_of rs
@@ -27,6 +29,18 @@ module _ (t : Table) where
 
   pub row_live : (i : ℕ) → i < t.count → get_or (live t) i none ≡ row_at t i
   row_live i l = get_or-take t.count t.rows i none l
+
+  -- by rising number
+  pub rows_rise : IsNonDecreasingBy (λ (r : Row). r.number) (live t)
+  rows_rise i j d l m =
+      let f = λ (r : Row). r.number in
+      let x = get_or-map f (live t) i d 0 (omega arith) in
+      let y = get_or-map f (live t) j d 0 m in
+      let n = length-map (live t) f in
+      elim (cases_lt i j) [
+        | inl a ↦ omega (arith, x, y, t.rising i j a (omega arith))
+        | inr a ↦ let e : i ≡ j = omega arith in omega (arith, ap (λ k. (get_or (live t) k d).number) e)
+      ]
 
   -- a fact of each row in use
   pub at_row : (P : Row → Type 0) → ((k : ℕ) → k < length (live t) → P (get_or (live t) k none)) → (i : ℕ) → i < t.count → P (row_at t i)
@@ -69,16 +83,6 @@ module _ (g : Row → Blob) (t : Table) where
     pub above_past : t.count ≤ i → None ≡ at_or_above b (blobs_by g t)
     above_past l = sym (above_none b (blobs_by g t) (λ k m. sought_blobs.1 k (omega (arith, length_blobs))))
 
-    pub below_same : i < t.count → (row_at t i).number ≡ b → Some b ≡ at_or_below b (blobs_by g t)
-    below_same l e =
-        let n = length_numbers (blobs_by g t) in
-        let h : get_or (numbers (blobs_by g t)) i 0 ≡ b = number_at i l ∙ e in
-        sym
-        (below_here b None (blobs_by g t) i (omega (arith, length_blobs))
-        (λ k m. elim (cases_lt k i) [ inl q ↦ omega (arith, sought_blobs.1 k q) | inr q ↦ let z : k ≡ i = omega arith in omega (arith, ap (λ j. get_or (numbers (blobs_by g t)) j 0) z) ])
-        (λ m. omega (arith, rising_blobs i (suc i) (omega arith) (omega arith)))
-        ∙ ap Some h)
-
   -- b is not there
   module _ (b i : ℕ) (f : Sought b (numbers_of (live t)) i) (e : i < t.count → (row_at t i).number ≡ b → ⊥) where
     pub above_b : i < length (blobs_by g t) → b < get_or (numbers (blobs_by g t)) i 0
@@ -93,20 +97,27 @@ module _ (g : Row → Blob) (t : Table) where
     pub missing : find (blobs_by g t) b ≡ None
     missing = find_missing b (blobs_by g t) i rising_blobs (sought_blobs b i f).1 above_b
 
-    pub below_first : i ≡ 0 → None ≡ at_or_below b (blobs_by g t)
-    below_first z = sym (below_none b None (blobs_by g t) (rw z at above_b))
+  -- b is below every number, or i is the last place whose number is not above it
+  pub below_first : (b : ℕ) → (0 < t.count → b < (row_at t 0).number) → None ≡ at_or_below b (blobs_by g t)
+  below_first b a = sym (below_none b None (blobs_by g t) (λ l. let m : 0 < t.count = omega (arith, length_blobs) in omega (arith, a m, number_at 0 m)))
 
-    pub below_prior : 0 < i → Some (row_at t (i - 1)).number ≡ at_or_below b (blobs_by g t)
-    below_prior z =
-        let s = sought_blobs b i f in
-        let n = length_numbers (blobs_by g t) in
-        let j : suc (i - 1) ≡ i = omega arith in
-        let l : i - 1 < t.count = omega (arith, s.0, length_blobs) in
-        sym
-        (below_here b None (blobs_by g t) (i - 1) (omega (arith, length_blobs)) (λ k m. omega (arith, s.1 k (omega arith))) (rw j above_b)
-        ∙ ap Some (number_at (i - 1) l))
+  pub below_last : (b i : ℕ) → i < t.count → ((k : ℕ) → k < suc i → (row_at t k).number ≤ b) → (suc i < t.count → b < (row_at t (suc i)).number)
+      → Some (row_at t i).number ≡ at_or_below b (blobs_by g t)
+  below_last b i l h a =
+      sym
+      (below_here b None (blobs_by g t) i (omega (arith, length_blobs)) (λ k m. omega (arith, h k m, number_at k (omega arith)))
+      (λ m. let q : suc i < t.count = omega (arith, length_blobs) in omega (arith, a q, number_at (suc i) q))
+      ∙ ap Some (number_at i l))
 
 pub here : (t : Table) (b i : ℕ) → Sought b (numbers_of (live t)) i → i < t.count → (row_at t i).number ≡ b → Here b t i
 here t b i f l e =
     let o = at_row t Ordered t.ordered i l in
     record { within = l; before = f.1; number = e; safe_within = o.0; sound_within = o.1; fits = o.2; found = λ g. found_at g t b i f l e }
+
+-- the row at the place of b is that of b, or b has none
+pub found_by : (t : Table) (b i : ℕ) (q : Bool) → Sought b (numbers_of (live t)) i → i < t.count → eqb (row_at t i).number b ≡ q → FoundAt b t (then_some q i)
+found_by t b i true f l e = here t b i f l (eqb-true (row_at t i).number b e)
+found_by t b i false f l e = λ g. missing g t b i f (λ m. eqb-false (row_at t i).number b e)
+
+pub found_past : (t : Table) (b i : ℕ) → Sought b (numbers_of (live t)) i → t.count ≤ i → FoundAt b t None
+found_past t b i f l = λ g. missing g t b i f (λ m. absurd (omega arith))

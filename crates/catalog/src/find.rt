@@ -7,20 +7,23 @@ ghost use Rattle.catalog.specs.Blobs.{live, blobs_by};
 ghost use Rattle.catalog.specs.Found.{FoundAt};
 ghost use Rattle.catalog.specs.declared.row.Row.{Row as ARow};
 
+use crate::row::Row;
 use crate::table::Table;
 
 impl Table {
+    // The rows in use.
+    fn live(&self) -> &[Row]
+        ensures { result.now ≡ live self.now }
+    {
+        &self.rows[..self.count]
+    }
+
     // The first place whose number is not below b.
     pub fn seek(&self, b: u64) -> usize
         ensures within { result ≤ self.now.count }
         ensures place { Sought b (numbers_of (live self.now)) result }
     {
-        for i in 0..self.count {
-            if self.rows[i].number >= b {
-                return i;
-            }
-        }
-        self.count
+        self.live().partition_point(|row| row.number < b)
     }
 
     // The place of the blob with this number.
@@ -28,36 +31,24 @@ impl Table {
         ensures { FoundAt b self.now result }
     {
         let i = self.seek(b);
-        if i < self.count && self.rows[i].number == b {
-            Some(i)
-        } else {
-            None
-        }
+        let row = self.live().get(i)?;
+        (row.number == b).then_some(i)
     }
 
     // The lowest number at or above b.
     pub fn above(&self, b: u64) -> Option<u64>
         ensures { (g : ARow → Blob) → result ≡ at_or_above b (blobs_by g self.now) }
     {
-        let i = self.seek(b);
-        if i < self.count {
-            Some(self.rows[i].number)
-        } else {
-            None
-        }
+        let row = self.live().get(self.seek(b))?;
+        Some(row.number)
     }
 
-    // The highest number at or below b.
+    // The highest number at or below b: that of the last row which is not above b.
     pub fn below(&self, b: u64) -> Option<u64>
         ensures { (g : ARow → Blob) → result ≡ at_or_below b (blobs_by g self.now) }
     {
-        let i = self.seek(b);
-        if i < self.count && self.rows[i].number == b {
-            return Some(b);
-        }
-        if i == 0 {
-            return None;
-        }
-        Some(self.rows[i - 1].number)
+        let past = self.live().partition_point(|row| row.number <= b);
+        let last = past.checked_sub(1)?;
+        Some(self.rows[last].number)
     }
 }

@@ -1,10 +1,21 @@
-use Rattle.std.proofs.Common.{arith}
-use Rattle.catalog.proofs.Lookup.{here, missing}
+use Rattle.std.proofs.Common.{◌≡◌, ◌<◌, length, get_or, eqb, ap, sym, ◌∙◌, arith}
+use Rattle.catalog.specs.declared.row.Row.{Row}
+use Rattle.catalog.specs.Rows.{none}
+use Rattle.catalog.specs.Blobs.{row_at}
+use Rattle.catalog.proofs.Lookup.{length_rows, row_live, found_by, found_past}
 use Rattle.catalog.proofs.table.Table.find.Goals as goal
 
-pub returns-then-self-i : goal.returns-then-self-i
-returns-then-self-i c = here c.args.self.now c.args.b c.seek-i.result c.seek-i.ensures.place (omega arith) (omega arith)
+pub returns-in_err-row : goal.returns-in_err-row
+returns-in_err-row c =
+    let t = c.args.self.now in
+    let l = c.in_err-row.ensures.lookup.3 in
+    rw c.from_residual.ensures (found_past t c.args.b c.seek-i.result c.seek-i.ensures.place (omega (arith, l, ap length c.live.ensures, length_rows t)))
 
-pub returns-else-i-self : goal.returns-else-i-self
-returns-else-i-self c g =
-    missing g c.args.self.now c.args.b c.seek-i.result c.seek-i.ensures.place (λ l e. grind arith)
+pub returns : goal.returns
+returns c =
+    let t = c.args.self.now in
+    let i = c.seek-i.result in
+    let a = c.in_ok-row.ensures.lookup.3 in
+    let l : i < t.count = omega (arith, a.0, ap length c.live.ensures, length_rows t) in
+    let e : c.in_ok-row.row.now ≡ row_at t i = a.1 none ∙ ap (λ rs. get_or rs i none) c.live.ensures ∙ row_live t i l in
+    rw c.then_some.ensures (found_by t c.args.b i _ c.seek-i.ensures.place l (ap (λ (r : Row). eqb r.number c.args.b) (sym e)))
