@@ -16,12 +16,12 @@ use Rattle.built.specs.Seen.{content_of, room_in, blob_in, seen}
 use Rattle.built.specs.Calls.{Called, Begun, Kept}
 use Rattle.built.proofs.Facts.{stands}
 
-abbrev store_of : {S : Type 0} {M : Ghosts S} (m : S) (c : Catalog) → M.layout.Holds m c.table → Built S M
+abbrev pub store_of : {S : Type 0} {M : Ghosts S} (m : S) (c : Catalog) → M.layout.Holds m c.table → Built S M
 store_of m c h = record { medium = m; catalog = c; held = h }
 
 module _ {S : Type 0} {M : Ghosts S} where
   -- a store is its medium and its catalog
-  pub same_store : (m : S) (c d : Catalog) (h : M.layout.Holds m d.table) (k : M.layout.Holds m c.table) → d ≡ c → store_of {M = M} m d h ≡ store_of m c k
+  same_store : (m : S) (c d : Catalog) (h : M.layout.Holds m d.table) (k : M.layout.Holds m c.table) → d ≡ c → store_of {M = M} m d h ≡ store_of m c k
   same_store m c d h k e =
       subst (λ (x : Catalog). (z : M.layout.Holds m x.table) → store_of {M = M} m x z ≡ store_of m c k) (sym e) (λ z. ap (store_of {M = M} m c) (M.layout.one m c.table z k)) h
 

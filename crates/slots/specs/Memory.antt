@@ -1,7 +1,6 @@
 -- The parts of the memory.
-use Rattle.std.specs.Prelude.{◌≡◌, ℕ, ◌+◌, ◌-◌, ◌*◌, ◌/◌, ◌<◌, ◌≤◌, ◌⊎◌, List, take, drop, ◌≢◌}
+use Rattle.std.specs.Prelude.{◌≡◌, ℕ, ◌+◌, ◌*◌, ◌/◌, ◌<◌, ◌≤◌, ◌⊎◌, ◌≢◌}
 use Rattle.std.proofs.Common.{arith, add-mul, one-mul, mul-le-mul_right, ap, ◌∙◌, inl, inr}
-use Rattle.std.proofs.lemmas.List.{drop-take, take-take, drop-drop}
 use Rattle.std.proofs.lemmas.Bool.{cases_order}
 
 pub part_end : (p each : ℕ) → (p + 1) * each ≡ p * each + each
@@ -20,12 +19,3 @@ parts_meet_not p q each n =
       | inr (inl l) ↦ inl (let m : (p + 1) * each ≤ q * each = mul-le-mul_right each (omega arith) in omega (arith, part_end p each))
       | inr (inr l) ↦ inr (let m : (q + 1) * each ≤ p * each = mul-le-mul_right each (omega arith) in omega (arith, part_end q each))
     ]
-
--- bytes of a blob are bytes of the memory
-pub bytes_of : (mem : List ℕ) (a len at n : ℕ) → at + n ≤ len → take n (drop at (take len (drop a mem))) ≡ take n (drop (a + at) mem)
-bytes_of mem a len at n l =
-    let e : len ≡ at + (len - at) = omega arith in
-    ap (λ k. take n (drop at (take k (drop a mem)))) e
-    ∙ ap (take n) (drop-take at (len - at) (drop a mem))
-    ∙ take-take n (len - at) (drop at (drop a mem)) (omega arith)
-    ∙ ap (take n) (drop-drop at a mem)
