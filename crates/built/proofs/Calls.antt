@@ -1,5 +1,6 @@
 -- A writing call from its beginning to its answer.
-use Rattle.std.proofs.Common.{◌≡◌, ◌<◌, Bool, true, cond, Some, None, Ok, Err, Result, sym, refl, ap, ◌∙◌, subst, inl, arith}
+use Rattle.std.specs.Option.{unwrap_or}
+use Rattle.std.proofs.Common.{is_some, Option, ℕ, ◌≡◌, ◌<◌, Bool, true, cond, Some, None, Ok, Err, Result, sym, refl, ap, ◌∙◌, subst, inl, arith}
 use Rattle.store.specs.declared.cause.Cause.{Cause}
 use Rattle.store.specs.declared.keys.Keys.{Keys}
 use Rattle.store.specs.Disk.{View, Op, Does, Rooms, refuses, refuses_up, done}
@@ -8,7 +9,7 @@ use Rattle.catalog.specs.declared.catalog.Catalog.{Catalog}
 use Rattle.catalog.specs.declared.table.Table.{Table}
 use Rattle.catalog.specs.Blobs.{blobs_by}
 use Rattle.catalog.specs.Seen as table
-use Rattle.catalog.specs.Seen.{OneFewer, blob_at}
+use Rattle.catalog.specs.Seen.{OneFewer, is_up, calls_left}
 use Rattle.built.specs.declared.medium.Medium.{Ghosts}
 use Rattle.built.specs.declared.built.Built.{Built}
 use Rattle.built.specs.Laws.{Laws}
@@ -35,14 +36,14 @@ seen_finished : {S : Type 0} {M : Ghosts S} (x : Built S M) (y : Catalog) (h : M
     → seen (store_of {M = M} x.medium y h) ≡ seen x
 seen_finished x y h e =
     let v = λ (t : Table) (p q : Keys) (u : Bool). let z : View = record { disk = record { blobs = blobs_by (blob_in x) t; present = p; saved = q }; up = u; room = room_in x (blobs_by (blob_in x) t); most = 64 } in z in
-    ap (λ (t : Table). v t y.present y.saved y.up) e.table
-    ∙ ap (λ (p : Keys). v x.catalog.table p y.saved y.up) e.present
-    ∙ ap (λ (q : Keys). v x.catalog.table x.catalog.present q y.up) e.saved
+    ap (λ (t : Table). v t y.present y.saved (is_up y)) e.table
+    ∙ ap (λ (p : Keys). v x.catalog.table p y.saved (is_up y)) e.present
+    ∙ ap (λ (q : Keys). v x.catalog.table x.catalog.present q (is_up y)) e.saved
     ∙ ap (λ (u : Bool). v x.catalog.table x.catalog.present x.catalog.saved u) e.up
 
-module _ {S : Type 0} {M : Ghosts S} (o : Op) (s d : Built S M) (is : d ≡ s) (up : s.catalog.up ≡ true) (calls : 0 < s.catalog.calls) where
-  still_up : d.catalog.up ≡ true
-  still_up = ap (λ (z : Built S M). z.catalog.up) is ∙ up
+module _ {S : Type 0} {M : Ghosts S} (o : Op) (s d : Built S M) (is : d ≡ s) (up : is_up s.catalog ≡ true) (calls : 0 < calls_left s.catalog) where
+  still_up : is_up d.catalog ≡ true
+  still_up = ap (λ (z : Built S M). is_up z.catalog) is ∙ up
 
   asked : refuses o (seen d) ≡ refuses_up o (seen d)
   asked = ap (λ (b : Bool). cond b (refuses_up o (seen d)) (Some Power)) still_up
@@ -53,14 +54,14 @@ module _ {S : Type 0} {M : Ghosts S} (o : Op) (s d : Built S M) (is : d ≡ s) (
   called x y h r ok fewer kept allowed disk rooms =
       let f = store_of {M = M} x.medium y h in
       let u = still_up in
-      let does : Does o (seen d) (seen x) = (asked ∙ allowed, kept.up ∙ u, disk, refl, rooms) in
+      let does : Does o (seen d) (seen x) = (asked ∙ allowed, ap is_some kept.power ∙ u, disk, refl, rooms) in
       subst (λ (z : Built S M). Called o z r f) is
       (subst (λ (q : Result (Unit {0}) Cause). Called o d q f) (sym ok)
-      (record { wrote = subst (λ (v : View). Does o (seen d) v) (sym (seen_finished x y h fewer)) does; counts = omega (arith, fewer.calls, kept.calls) }))
+      (record { wrote = subst (λ (v : View). Does o (seen d) v) (sym (seen_finished x y h fewer)) does; counts = omega (arith, fewer.calls, ap (λ (p : Option ℕ). unwrap_or p 0) kept.power) }))
 
   -- it is refused, and nothing has changed
   pub refused : {A : Type 0} (c : Cause) → refuses_up o (seen d) ≡ Some c → Called {A = A} o s (Err c) d
   refused {A} c e =
       let u = still_up in
       subst (λ (z : Built S M). Called {A = A} o z (Err c) d) is
-      (record { wrote = inl (asked ∙ e, refl); counts = (refl, λ z. absurd (omega (arith, calls, ap (λ (y : Built S M). y.catalog.calls) is, z)), λ l. refl) })
+      (record { wrote = inl (asked ∙ e, refl); counts = (refl, λ z. absurd (omega (arith, calls, ap (λ (y : Built S M). calls_left y.catalog) is, z)), λ l. refl) })

@@ -1,6 +1,7 @@
 // A memory checked, a new store on it, and the memory handed back.
 ghost use Rattle.std.specs.Prelude.{◌≡◌, [], MatchResult};
 ghost use Rattle.store.specs.Disk.{New};
+ghost use Rattle.catalog.specs.Seen.{calls_left};
 ghost use Rattle.built.specs.Seen.{seen};
 
 use crate::built::Built;
@@ -21,7 +22,7 @@ impl<M: Medium> Built<M> {
         ensures fresh { New (seen result) }
         ensures laid { M.layout.Laid memory result.medium }
         ensures room { (seen result).room ≡ M.layout.room result.medium [] }
-        ensures calls { result.catalog.calls ≡ calls }
+        ensures calls { calls_left result.catalog ≡ calls }
     {
         let (medium, table) = M::lay_out(memory);
         let catalog = Catalog::new(table, calls);

@@ -15,7 +15,7 @@ impl<M: Medium> Built<M> {
     // it is refused if the lengths are out of order, or if the bytes or a new blob find no room.
     pub fn set_blob(&mut self, b: u64, bytes: &[u8], sound: usize, safe: usize) -> Result<(), Cause>
         ensures set { BlobSet b (record { bytes = bytes.entry.now; sound = sound; safe = safe }) (seen self.old) result (seen self.new) }
-        ensures calls { self.new.catalog.calls ≡ self.old.catalog.calls }
+        ensures power { self.new.catalog.power ≡ self.old.catalog.power }
         ensures memory { Untouched b self.new self.old }
     {
         if safe > sound || sound > bytes.len() {
@@ -40,7 +40,7 @@ impl<M: Medium> Built<M> {
     // Sets a key as it is present and as it is saved.
     pub fn set_key(&mut self, k: Key, present: Option<u64>, saved: Option<u64>)
         ensures set { KeySet k present saved (seen self.old) (seen self.new) }
-        ensures calls { self.new.catalog.calls ≡ self.old.catalog.calls }
+        ensures power { self.new.catalog.power ≡ self.old.catalog.power }
         ensures medium { self.new.medium ≡ self.old.medium }
     {
         self.catalog.set_key(k, present, saved);

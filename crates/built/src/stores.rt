@@ -2,6 +2,7 @@
 ghost use Rattle.std.specs.Prelude.{◌≡◌, ℕ};
 ghost use Rattle.store.specs.Disk.{Restarted, Open, Append, Truncate, Sync, Remove, Put, DropKey, SyncKeys};
 ghost use Rattle.store.specs.Left.{left};
+ghost use Rattle.catalog.specs.Seen.{calls_left};
 ghost use Rattle.catalog.proofs.Stored.{stored_lawful};
 ghost use Rattle.built.specs.Seen.{content_of, room_in, blobs, seen};
 ghost use Rattle.built.specs.Calls.{Called};
@@ -144,7 +145,7 @@ impl<M: Medium> Store for Built<M> {
     fn restart(&mut self, how: Restart)
         ensures restarted { Restarted (seen self.old) (seen self.new) }
         ensures left { blobs self.new ≡ left how (blobs self.old) }
-        ensures calls { self.new.catalog.calls ≡ how.calls }
+        ensures calls { calls_left self.new.catalog ≡ how.calls }
         ensures memory { UntouchedBut (λ _. Unit {0}) self.old self.new }
     {
         for i in 0..self.catalog.table.count {

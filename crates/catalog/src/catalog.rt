@@ -1,19 +1,18 @@
 // What every built store keeps beside its memory: the table, the keys, and the power.
-ghost use Rattle.std.specs.Prelude.{◌≡◌, true};
+ghost use Rattle.std.specs.Prelude.{◌≡◌, Some};
 ghost use Rattle.store.specs.Disk.{no_keys};
 ghost use Rattle.store.specs.Laws.{KeysFit};
 
 use crate::table::Table;
 use store::keys::Keys;
 
-// `calls` is how many writing calls still succeed: the next one after them loses the power.
+// `power` is how many writing calls still succeed, or None when the power is gone: the next one after them loses it.
 #[derive(Clone, Copy)]
 pub struct Catalog {
     pub table: Table,
     pub present: Keys,
     pub saved: Keys,
-    pub up: bool,
-    pub calls: u64,
+    pub power: Option<u64>,
     ghost held: { KeysFit present },
     ghost kept: { KeysFit saved },
 }
@@ -24,15 +23,13 @@ impl Catalog {
         ensures table { result.table ≡ table }
         ensures present { result.present ≡ no_keys }
         ensures saved { result.saved ≡ no_keys }
-        ensures up { result.up ≡ true }
-        ensures calls { result.calls ≡ calls }
+        ensures power { result.power ≡ Some calls }
     {
         Catalog {
             table,
             present: Keys::none(),
             saved: Keys::none(),
-            up: true,
-            calls,
+            power: Some(calls),
         }
     }
 }

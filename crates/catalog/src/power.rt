@@ -1,7 +1,7 @@
 // The power: a question needs it, and a writing call sees to it before anything is written.
-ghost use Rattle.std.specs.Prelude.{◌≡◌, ◌-◌, ◌<◌, true, false, Ok, MatchResult};
+ghost use Rattle.std.specs.Prelude.{◌≡◌, ◌<◌, true, false, Ok, MatchResult};
 ghost use Rattle.store.specs.declared.cause.Cause.TheVariants.{Power};
-ghost use Rattle.catalog.specs.Seen.{Begun, OneFewer, Revived};
+ghost use Rattle.catalog.specs.Seen.{is_up, calls_left, Begun, OneFewer, Revived};
 
 use crate::catalog::Catalog;
 use store::cause::Cause;
@@ -9,29 +9,31 @@ use store::cause::Cause;
 impl Catalog {
     // A question is answered while the power is on.
     pub fn ask(&self) -> Result<(), Cause>
-        ensures { MatchResult result (λ _. self.now.up ≡ true) (λ c. (c ≡ Power) × (self.now.up ≡ false)) }
+        ensures { MatchResult result (λ _. is_up self.now ≡ true) (λ c. (c ≡ Power) × (is_up self.now ≡ false)) }
     {
-        if self.up { Ok(()) } else { Err(Cause::Power) }
+        self.power.map(|_| ()).ok_or(Cause::Power)
     }
 
     // A writing call begins. With no call left the power goes, and the store is down.
     pub fn begin(&mut self) -> Result<(), Cause>
         ensures { Begun self.old result self.new }
     {
-        if !self.up || self.calls == 0 {
-            self.up = false;
-            return Err(Cause::Power);
+        match self.power {
+            Some(left) if left > 0 => Ok(()),
+            _ => {
+                self.power = None;
+                Err(Cause::Power)
+            }
         }
-        Ok(())
     }
 
     // A writing call is done, and counted.
     pub fn finish(&mut self) -> Result<(), Cause>
-        requires { 0 < self.old.calls }
+        requires { 0 < calls_left self.old }
         ensures done { result ≡ Ok tt }
         ensures counted { OneFewer self.old self.new }
     {
-        self.calls -= 1;
+        self.power = self.power.map(|left| left.saturating_sub(1));
         Ok(())
     }
 
@@ -39,9 +41,7 @@ impl Catalog {
     pub fn revive(&mut self, calls: u64)
         ensures { Revived self.old calls self.new }
     {
-        let keys = self.saved;
-        self.present = keys;
-        self.up = true;
-        self.calls = calls;
+        self.present = self.saved;
+        self.power = Some(calls);
     }
 }

@@ -1,6 +1,6 @@
 // The writing calls that leave every byte where it is. Each sees first to the power, then to the other causes.
-ghost use Rattle.std.specs.Prelude.{◌≡◌, ◌<◌, false};
-ghost use Rattle.store.specs.Disk.{Op, Sync, Put, DropKey, SyncKeys};
+ghost use Rattle.std.specs.Prelude.{◌≡◌};
+ghost use Rattle.store.specs.Disk.{Sync, Put, DropKey, SyncKeys};
 ghost use Rattle.catalog.specs.Blobs.{SameRows};
 ghost use Rattle.catalog.specs.Seen.{Called, KeySet};
 
@@ -9,16 +9,6 @@ use store::cause::Cause;
 use store::keys::Key;
 
 impl Catalog {
-    // The power goes before anything is written: for every writing call.
-    pub fn stop(&mut self) -> Result<(), Cause>
-        requires { 0 < self.old.calls → self.old.up ≡ false }
-        ensures called { (o : Op) → Called o self.old result self.new }
-        ensures table { self.new.table ≡ self.old.table }
-    {
-        self.up = false;
-        Err(Cause::Power)
-    }
-
     pub fn sync(&mut self, b: u64) -> Result<(), Cause>
         ensures called { Called (Sync b) self.old result self.new }
         ensures rows { SameRows self.old.table self.new.table }

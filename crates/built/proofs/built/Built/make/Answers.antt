@@ -20,7 +20,7 @@ returns-then-self-i g c =
     let f = h.found (blob_in s) in
     record {
       medium = refl;
-      kept = record { present = refl; saved = refl; up = refl; calls = refl };
+      kept = record { present = refl; saved = refl; power = refl };
       allowed = simp f;
       here = h;
       len = sym (there g.met.M.Medium.lawful s b i h);
@@ -47,7 +47,7 @@ returns g c =
     let r : row_at u i ≡ fresh_row b p = row_opened s.catalog.table b i p u _ n c.insert.ensures.rows c.seek-i.ensures.within in
     record {
       medium = refl;
-      kept = record { present = refl; saved = refl; up = refl; calls = refl };
+      kept = record { present = refl; saved = refl; power = refl };
       allowed = simp (m, f);
       here = subst (λ k. Here k u i) (ap (λ (x : Row). x.number) r) (here_at u i (omega (arith, n, c.seek-i.ensures.within)));
       len = ap (λ (x : Row). x.len) r ∙ sym (ap bytes_there m);

@@ -14,4 +14,4 @@ returns-clause-rewritten g c =
     ∙ ap (λ (k : ℕ). let r : Row = record { number = k; place = at.place; tail = at.tail; len = row.len; sound = row.sound; safe = row.safe } in set s.catalog.table.rows c.args.i r)
     (c.requires.number ∙ sym (ap (λ (x : Row). x.number) e.row))
     ∙ ap (λ (k : ℕ). let r : Row = record { number = at.number; place = at.place; tail = at.tail; len = k; sound = row.sound; safe = row.safe } in set s.catalog.table.rows c.args.i r) c.requires.len in
-    rewritten g.met.M.Medium.lawful s _ c.args.i _ _ at row.sound row.safe c.requires.within e rows c.change.ensures.count (record { present = refl; saved = refl; up = refl; calls = refl })
+    rewritten g.met.M.Medium.lawful s _ c.args.i _ _ at row.sound row.safe c.requires.within e rows c.change.ensures.count (record { present = refl; saved = refl; power = refl })

@@ -1,4 +1,4 @@
-use Rattle.std.proofs.Common.{◌≡◌, ◌+◌, ltb, false, length, ap, refl, ◌∙◌, arith}
+use Rattle.std.proofs.Common.{is_some, ◌≡◌, ◌+◌, ltb, false, length, ap, refl, ◌∙◌, arith}
 use Rattle.std.proofs.lemmas.Bool.{le-ltb}
 use Rattle.store.specs.Built.{bytes_there}
 use Rattle.store.specs.Disk.{Blob, find, change}
@@ -26,6 +26,6 @@ returns-clause-set g c =
     let q = le-ltb (length bs) c.args.sound (omega arith) in (
       simp (p, q, z, m.allowed),
       as_disk (e.kept.present ∙ m.kept.present) (e.kept.saved ∙ m.kept.saved) (e.blobs ∙ as_change t (λ _. x) b i x m.here refl ∙ ap (change (λ _. x) b) m.blobs),
-      e.kept.up ∙ m.kept.up,
+      ap is_some (e.kept.power ∙ m.kept.power),
       refl,
     )

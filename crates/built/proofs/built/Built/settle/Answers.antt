@@ -23,6 +23,6 @@ returns-in-Fill g c =
     c.change.ensures.rows
     ∙ ap (λ (x : Row). let y : Row = record { number = x.number; place = x.place; tail = x.tail; len = x.len; sound = m; safe = m } in set s.catalog.table.rows i y) is in
     rewritten_as w s _ i r.len (take m old.bytes ++ replicate (r.len - m) v) r m m c.requires c.blot.ensures rows c.change.ensures.count
-    (record { present = refl; saved = refl; up = refl; calls = refl })
+    (record { present = refl; saved = refl; power = refl })
     (left_of how old)
     (rw (c.in-Fill.is, ← left, n) refl)

@@ -26,7 +26,7 @@ returns-clause-called g c =
     let x : Built g.row.M.Denot g.M.Medium = record {
       medium = c.recast.new.self;
       catalog =
-          record { table = u; present = d.catalog.present; saved = d.catalog.saved; up = d.catalog.up; calls = d.catalog.calls; held = d.catalog.held; kept = d.catalog.kept };
+          record { table = u; present = d.catalog.present; saved = d.catalog.saved; power = d.catalog.power; held = d.catalog.held; kept = d.catalog.kept };
       held = e.gone refl u k.count k.rows;
     } in
     let xs =
@@ -34,5 +34,5 @@ returns-clause-called g c =
     (λ j l m. ap (λ (zs : List ℕ). let y : Blob = record { bytes = zs; sound = (row_at d j).sound; safe = (row_at d j).safe } in y) (e.others j l m)) in
     let z = h.found (blob_in d) in
     called (Remove c.args.b) c.args.self.now d o.0 o.1 o.2 x c.finish.new.self _ c.finish.result c.finish.ensures.done
-    (record { table = f.table; present = f.present; saved = f.saved; up = f.up; calls = f.calls }) (record { present = refl; saved = refl; up = refl; calls = refl })
+    (record { table = f.table; present = f.present; saved = f.saved; up = f.up; calls = f.calls }) (record { present = refl; saved = refl; power = refl })
     (simp z) (on_disk _ _ _ _ xs) tt

@@ -1,4 +1,4 @@
-use Rattle.std.proofs.Common.{◌≡◌, ℕ, ◌<◌, ◌≤◌, ◌++◌, map, length, get_or, set, drop, refl, ap, ◌∙◌, sym, append-nil, arith}
+use Rattle.std.proofs.Common.{is_some, ◌≡◌, ℕ, ◌<◌, ◌≤◌, ◌++◌, map, length, get_or, set, drop, refl, ap, ◌∙◌, sym, append-nil, arith}
 use Rattle.std.proofs.lemmas.List.Edits.{map_over_more}
 use Rattle.std.proofs.lemmas.List.{take_all, drop_all, get_or_default}
 use Rattle.store.specs.Disk.{Blob, blank}
@@ -50,4 +50,4 @@ returns-clause-restarted g c =
     ∙ ap (λ xs. left c.args.how (blobs s) ++ xs) (drop_all i (blobs s) all)
     ∙ append-nil (left c.args.how (blobs s)) in
     let f = ap (λ (x : Table). blobs_by (blob_in t) x) r.table ∙ e in
-    restarts c.args.how (seen s) _ (stored_whole (content_of s) s.catalog.table (stands g.met.M.Medium.lawful s)) r.up refl f (r.saved ∙ a.saved) (r.present ∙ a.saved)
+    restarts c.args.how (seen s) _ (stored_whole (content_of s) s.catalog.table (stands g.met.M.Medium.lawful s)) (ap is_some r.power) refl f (r.saved ∙ a.saved) (r.present ∙ a.saved)

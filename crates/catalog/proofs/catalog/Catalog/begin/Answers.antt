@@ -1,16 +1,19 @@
-use Rattle.std.proofs.Common.{◌≡◌, ◌<◌, false, refl, arith}
-use Rattle.store.proofs.Power.{stops, stopped_down}
-use Rattle.catalog.specs.Seen.{view_by}
+use Rattle.std.proofs.Common.{◌≡◌, ℕ, Option, ap, sym, refl, ◌∙◌, arith}
+use Rattle.std.specs.Option.{unwrap_or}
+use Rattle.store.proofs.Power.{stops}
+use Rattle.catalog.specs.Seen.{calls_left, view_by}
 use Rattle.catalog.proofs.Stored.{stored_whole}
-use Rattle.catalog.proofs.catalog.Catalog.begin.Goals.{then-not-self-via-then-not-self, then-not-self-via-else-not-self+then-self-eq0}
+use Rattle.catalog.proofs.catalog.Catalog.begin.Goals.{in_default-via-in-Some+else-left-gt0, in_default-via-in_default}
 use Rattle.catalog.proofs.catalog.Catalog.begin.Goals as goal
 
-pub returns-then-not-self : goal.returns-then-not-self
-returns-then-not-self c =
-    let d : 0 < c.args.self.now.calls → c.args.self.now.up ≡ false =
-    λ l. elim c.then-not-self.branch [ then-not-self-via-then-not-self w ↦ w.if-not-self.true | then-not-self-via-else-not-self+then-self-eq0 w ↦ absurd (omega (arith, w.if-self-eq0.true)) ] in (
+pub returns-in_default : goal.returns-in_default
+returns-in_default c =
+    let s = c.args.self.now in
+    let spent : calls_left s ≡ 0 =
+    elim c.in_default.branch [
+      | in_default-via-in-Some+else-left-gt0 w ↦ let b = w.if-left-gt0.false in omega (arith, ap (λ (p : Option ℕ). unwrap_or p 0) w.in-Some.is)
+      | in_default-via-in_default w ↦ ap (λ (p : Option ℕ). unwrap_or p 0) w.in_default.is
+    ] in (
       refl,
-      λ o content room h.
-          let v = view_by content room c.args.self.now in
-          (stops o v (stored_whole content c.args.self.now.table h), (refl, λ z. (refl, refl), λ l. stopped_down v (d l))),
+      λ o content room h. (stops o (view_by content room s) (stored_whole content s.table h), (sym spent, λ z. (refl, refl), λ l. absurd (omega arith))),
     )
