@@ -1,4 +1,4 @@
-// Reads of an opened or a trimmed log. They change nothing.
+// Reads of a log. They change nothing.
 ghost use Rattle.std.specs.Prelude.{◌≡◌, [], ◌∷◌, length};
 ghost use Rattle.rules.specs.Reads.{reading};
 ghost use Rattle.rules.specs.Reads.{read_rule as rule_of_read};
@@ -7,7 +7,7 @@ ghost use Rattle.journal.specs.Reading.{ReadOne};
 
 use crate::config::Config;
 use crate::fault::Fault;
-use crate::log::{Held, Opened, Trimmed};
+use crate::log::{Held, Log};
 use crate::positions::{offset_of, position_to_blob};
 use crate::steps;
 use record::record::Record;
@@ -68,15 +68,7 @@ fn read_one<S: Store, K: Record>(
     read_record(store, config, held.start, position)
 }
 
-impl<S: Store, K: Record> Opened<S, K> {
-    pub fn read(&self, position: u64) -> Result<K, Fault>
-        ensures { ReadOne (rule_of_read K.decode (ruled self.now.config) self.now.held.start self.now.held.end (S.view self.now.store) position) result }
-    {
-        read_one(&self.store, self.config, self.held, position)
-    }
-}
-
-impl<S: Store, K: Record> Trimmed<S, K> {
+impl<P, S: Store, K: Record> Log<P, S, K> {
     pub fn read(&self, position: u64) -> Result<K, Fault>
         ensures { ReadOne (rule_of_read K.decode (ruled self.now.config) self.now.held.start self.now.held.end (S.view self.now.store) position) result }
     {

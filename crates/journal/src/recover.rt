@@ -116,13 +116,7 @@ fn recover_cleared<S: Store>(
     if top < target {
         return Err(Fault::ItemPruned(top));
     }
-    Ok(Held {
-        start: target,
-        end: target,
-        mark: target,
-        bounded: false,
-        edge: None,
-    })
+    Ok(Held::empty_at(target))
 }
 
 pub fn recover_all<S: Store>(

@@ -49,110 +49,69 @@ fn sync_and_persist<S: Store>(
 
 impl<S: Store, K> Trimmed<S, K> {
     // All its records are acknowledged.
-    pub fn sync(self) -> Result<Trimmed<S, K>, Lost<S>>
+    pub fn sync(mut self) -> Result<Trimmed<S, K>, Lost<S>>
         ensures { Synced S.view self result }
     {
-        let Trimmed {
-            mut store,
-            config,
-            held,
-            kind,
-        } = self;
-        match sync_and_persist(&mut store, config, held.start, held.end) {
-            Ok(()) => Ok(Trimmed {
-                store,
-                config,
-                held: Held {
-                    start: held.start,
-                    end: held.end,
-                    mark: held.end,
-                    bounded: held.bounded,
+        let Held { start, end, .. } = self.held;
+        match sync_and_persist(&mut self.store, self.config, start, end) {
+            Ok(()) => {
+                self.held = Held {
+                    mark: end,
                     edge: None,
-                },
-                kind,
-            }),
-            Err(e) => Err(Lost {
-                store,
-                fault: Fault::Store(e),
-            }),
+                    ..self.held
+                };
+                Ok(self)
+            }
+            Err(e) => Err(self.end(e)),
+        }
+    }
+
+    // Blobs below the one of a position go; answers whether any position went.
+    pub fn prune(mut self, position: u64) -> Result<(Trimmed<S, K>, bool), Lost<S>>
+        ensures { Pruned S.view self position result }
+    {
+        let b = position.min(self.held.end) / self.config.records;
+        let first = b * self.config.records;
+        if first <= self.held.start {
+            return Ok((self, false));
+        }
+        match prune_to(&mut self.store, b) {
+            Ok(()) => {
+                self.held = Held {
+                    start: first,
+                    edge: None,
+                    ..self.held
+                };
+                Ok((self, true))
+            }
+            Err(e) => Err(self.end(e)),
         }
     }
 }
 
 impl<S: Store, K: Record> Trimmed<S, K> {
     // One record after the last. A log that was configured for records of another size refuses it.
-    pub fn append(self, item: K) -> Result<Trimmed<S, K>, Stop<Trimmed<S, K>, S>>
+    pub fn append(mut self, item: K) -> Result<Trimmed<S, K>, Stop<Trimmed<S, K>, S>>
         ensures sized { K.Record.size ≡ self.config.size → Appended S.view self (K.encode item) result }
         ensures other { (K.Record.size ≢ self.config.size) → result ≡ Err (Refused self BadConfig) }
     {
         if K::size() as u64 != self.config.size {
             return Err(Stop::Refused(self, Fault::BadConfig));
         }
-        if self.held.end == u64::MAX {
+        let end = self.held.end;
+        if end == u64::MAX {
             return Err(Stop::Refused(self, Fault::SizeOverflow));
         }
-        let Trimmed {
-            mut store,
-            config,
-            held,
-            kind,
-        } = self;
-        match write_record(&mut store, config, held.end, item) {
-            Ok(()) => Ok(Trimmed {
-                store,
-                config,
-                held: Held {
-                    start: held.start,
-                    end: held.end + 1,
-                    mark: held.mark,
-                    bounded: held.bounded,
-                    edge: None,
-                },
-                kind,
-            }),
-            Err(e) => Err(Stop::Ended(store, Fault::Store(e))),
-        }
-    }
-}
-
-impl<S: Store, K> Trimmed<S, K> {
-    // Blobs below the one of a position go; answers whether any position went.
-    pub fn prune(self, position: u64) -> Result<(Trimmed<S, K>, bool), Lost<S>>
-        ensures { Pruned S.view self position result }
-    {
-        let near = position.min(self.held.end);
-        let b = near / self.config.records;
-        let first = b * self.config.records;
-        if first <= self.held.start {
-            return Ok((self, false));
-        }
-        let Trimmed {
-            mut store,
-            config,
-            held,
-            kind,
-        } = self;
-        match prune_to(&mut store, b) {
+        match write_record(&mut self.store, self.config, end, item) {
             Ok(()) => {
-                let held = Held {
-                    start: first,
-                    end: held.end,
-                    mark: held.mark,
-                    bounded: held.bounded,
+                self.held = Held {
+                    end: end + 1,
                     edge: None,
+                    ..self.held
                 };
-                let log = Trimmed {
-                    store,
-                    config,
-                    held,
-                    kind,
-                };
-                Ok((log, true))
+                Ok(self)
             }
-            Err(e) => Err(Lost {
-                store,
-                fault: Fault::Store(e),
-            }),
+            Err(e) => Err(self.end(e).into()),
         }
     }
 }

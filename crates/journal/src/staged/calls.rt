@@ -8,61 +8,29 @@ ghost use Rattle.journal.specs.Configs.{ruled};
 use crate::checkpoint;
 use crate::clear::complete_clear;
 use crate::fault::Fault;
-use crate::log::{Held, Lost, Opened, Stop, Trimmed};
+use crate::log::{Held, Log, Lost, Stop, Trimmed};
 use crate::staged::StagedClear;
+use std::marker::PhantomData;
 use store::store::Store;
 
-impl<S: Store, K> Opened<S, K> {
+impl<P, S: Store, K> Log<P, S, K> {
     // The log ends here: what is left is the store, with the clear staged in its keys.
-    pub fn stage_clear(self, target: u64) -> Result<(S, StagedClear<K>), Stop<Opened<S, K>, S>>
+    pub fn stage_clear(mut self, target: u64) -> Result<(S, StagedClear<K>), Stop<Log<P, S, K>, S>>
         ensures { Staged S.view self.config target (S.view self.store) self result }
     {
         if target == u64::MAX {
             return Err(Stop::Refused(self, Fault::SizeOverflow));
         }
-        let Opened {
-            mut store,
-            config,
-            held: _,
-            kind,
-        } = self;
-        match checkpoint::stage_clear(&mut store, target) {
-            Ok(()) => Ok((
-                store,
-                StagedClear {
+        match checkpoint::stage_clear(&mut self.store, target) {
+            Ok(()) => {
+                let clear = StagedClear {
                     target,
-                    config,
-                    kind,
-                },
-            )),
-            Err(e) => Err(Stop::Ended(store, Fault::Store(e))),
-        }
-    }
-}
-
-impl<S: Store, K> Trimmed<S, K> {
-    pub fn stage_clear(self, target: u64) -> Result<(S, StagedClear<K>), Stop<Trimmed<S, K>, S>>
-        ensures { Staged S.view self.config target (S.view self.store) self result }
-    {
-        if target == u64::MAX {
-            return Err(Stop::Refused(self, Fault::SizeOverflow));
-        }
-        let Trimmed {
-            mut store,
-            config,
-            held: _,
-            kind,
-        } = self;
-        match checkpoint::stage_clear(&mut store, target) {
-            Ok(()) => Ok((
-                store,
-                StagedClear {
-                    target,
-                    config,
-                    kind,
-                },
-            )),
-            Err(e) => Err(Stop::Ended(store, Fault::Store(e))),
+                    config: self.config,
+                    kind: self.kind,
+                };
+                Ok((self.into_store(), clear))
+            }
+            Err(e) => Err(self.end(e).into()),
         }
     }
 }
@@ -78,16 +46,11 @@ impl<K> StagedClear<K> {
             kind,
         } = self;
         match complete_clear(&mut store, config, target) {
-            Ok(()) => Ok(Trimmed {
+            Ok(()) => Ok(Log {
                 store,
                 config,
-                held: Held {
-                    start: target,
-                    end: target,
-                    mark: target,
-                    bounded: false,
-                    edge: None,
-                },
+                held: Held::empty_at(target),
+                state: PhantomData,
                 kind,
             }),
             Err(e) => Err(Lost {

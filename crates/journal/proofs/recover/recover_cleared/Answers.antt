@@ -1,6 +1,7 @@
-use Rattle.std.proofs.Common.{◌<◌, ◌≤◌, arith}
+use Rattle.std.proofs.Common.{◌<◌, ◌≤◌, sym, subst, arith}
 use Rattle.std.proofs.lemmas.Result.{err_from_is_err_and}
-use Rattle.rules.specs.Open.{or_max}
+use Rattle.rules.specs.Rules.{answered, Follows}
+use Rattle.rules.specs.Open.{Opened, cleared, or_max}
 use Rattle.journal.specs.Configs.{ruled}
 use Rattle.journal.proofs.Recovering.{cleared_low, cleared_done, cleared_stops}
 use Rattle.journal.proofs.recover.recover_cleared.Goals as goal
@@ -25,4 +26,5 @@ returns g c =
     let v = g.S.Store.view c.args.store.now in
     let w = g.S.Store.view c.complete_clear.new.store in
     let l : c.args.target ≤ or_max c.args.ceiling = omega arith in
-    cleared_done (ruled c.args.config) c.args.ceiling v w c.args.target (omega arith) c.in_ok-complete_clear.ensures.1 l
+    subst (λ (o : Opened). Follows (cleared (ruled c.args.config) c.args.ceiling v.disk c.args.target) v (answered o) w) (sym c.empty_at.ensures)
+    (cleared_done (ruled c.args.config) c.args.ceiling v w c.args.target (omega arith) c.in_ok-complete_clear.ensures.1 l)

@@ -4,7 +4,7 @@ use Rattle.rules.specs.Rules.{answer, answered, persist}
 use Rattle.rules.specs.Open.{Opened, no_edge}
 use Rattle.journal.specs.Configs.{ruled}
 use Rattle.journal.proofs.Taken.{asks_done, asks_stopped, told_stops}
-use Rattle.journal.proofs.log.Trimmed.sync.Goals as goal
+use Rattle.journal.proofs.trimmed.Trimmed+S+K.sync.Goals as goal
 
 pub returns-in-Ok : goal.returns-in-Ok
 returns-in-Ok g c =
@@ -22,4 +22,4 @@ returns-in-Err g c =
     let h = c.args.self.held in
     let o : Opened = record { start = h.start; end = h.end; mark = h.end; bounded = h.bounded; edge = no_edge } in
     let os = map Sync (numbers v.disk.blobs) ++ persist (ruled c.args.self.config) h.start h.end in
-    told_stops (asks_stopped (answer o) os v w c.in-Err.e c.in-Err.ensures)
+    rw c.end.ensures (told_stops (asks_stopped (answer o) os v w c.in-Err.e c.in-Err.ensures))
