@@ -1,6 +1,7 @@
 -- The start, the edge and the watermark.
-use Rattle.std.proofs.Common.{◌≡◌, ℕ, ◌+◌, ◌-◌, ◌*◌, ◌/◌, ◌<◌, min, Bool, true, false, Some, None, Ok, Err, Option, sym, refl, ap, ◌∙◌, subst, zero-mul, arith}
-use native.Mathlib.Nat.{add-div_right, div-eq_of_lt}
+use Rattle.std.proofs.Common.{◌≡◌, ℕ, ◌+◌, ◌-◌, ◌*◌, ◌/◌, ◌%◌, ◌<◌, ◌≤◌, min, Bool, true, false, Some, None, Ok, Err, Option, sym, refl, ap, subst, arith}
+use Rattle.std.proofs.Math.Nat.{div-eq_of_lt-le, add-mul, one-mul}
+use Rattle.std.proofs.lemmas.Grind.{div_ceil_times}
 use Rattle.std.proofs.lemmas.Bool.{lt-ltb, le-ltb, lt-leb, ne_eqb}
 use Rattle.rules.specs.Rules.{Config, MAX, Plan, refuse, refused, blob_of, aligned, Corruption}
 use Rattle.rules.specs.Rules.{OffsetOverflow as Over}
@@ -27,12 +28,17 @@ start_newer c p q h lo f k ep eq a o l =
     let w = ne_eqb (blob_of c h) lo (λ e. omega arith) in
     simp (ep, eq, t, a, u, w)
 
-pub edge_some : (c : Config) (s : ℕ) (o : Option ℕ) (k : ℕ) → 0 < c.n → o ≡ Some k → s < k → (k - 1) / c.n + 1 ≡ edge_at c s o
-edge_some c s o k np e l =
-    let t = lt-leb k s l in
-    let r : k + (c.n - 1) ≡ (k - 1) + c.n = omega arith in
-    let d : ((k - 1) + c.n) / c.n ≡ (k - 1) / c.n + 1 = add-div_right (k - 1) np in
-    simp (e, t) (omega (arith, d, ap (λ (m : ℕ). m / c.n) r))
+-- rounded up, as std does and as the rules do
+pub ceil : (n p : ℕ) → 0 < p → n / p + min 1 (n % p) ≡ (n + (p - 1)) / p
+ceil n p pp =
+    let q : ℕ = n / p + min 1 (n % p) in
+    let t = div_ceil_times n p pp in
+    let low : q * p ≤ n + (p - 1) = omega (arith, t.1) in
+    let high : n + (p - 1) < (q + 1) * p = rw (add-mul q 1 p) (omega (arith, t.0, one-mul p)) in
+    sym (div-eq_of_lt-le p low high)
+
+pub edge_some : (c : Config) (s : ℕ) (o : Option ℕ) (k : ℕ) → 0 < c.n → o ≡ Some k → s < k → k / c.n + min 1 (k % c.n) ≡ edge_at c s o
+edge_some c s o k np e l = let t = lt-leb k s l in simp (e, t) (ceil k c.n np)
 
 pub weigh_gap : (c : Config) (s e size : ℕ) (ceiling m : Option ℕ) (gap : Bool) → m ≡ None → gap ≡ true → weigh c s ceiling e m (stands size gap) ≡ refuse (Corruption 6)
 weigh_gap c s e size ceiling m gap p q = simp (p, q)
@@ -40,20 +46,7 @@ weigh_gap c s e size ceiling m gap p q = simp (p, q)
 pub weigh_low : (c : Config) (s e size k : ℕ) (ceiling m : Option ℕ) (gap : Bool) → m ≡ Some k → size < min k (or_max ceiling) → weigh c s ceiling e m (stands size gap) ≡ refuse (Corruption 5)
 weigh_low c s e size k ceiling m gap p l = let t = lt-ltb size (min k (or_max ceiling)) l in simp (p, t)
 
--- (n - 1) / p + 1 is n / p, rounded up
-pub ceil : (n p : ℕ) → 0 < p → 0 < n → (n - 1) / p + 1 ≡ (n + (p - 1)) / p
-ceil n p pp np =
-    let r : n + (p - 1) ≡ (n - 1) + p = omega arith in
-    let d : ((n - 1) + p) / p ≡ (n - 1) / p + 1 = add-div_right (n - 1) pp in
-    sym d ∙ ap (λ (m : ℕ). m / p) (sym r)
-
-pub round_none : (page n : ℕ) → 0 < page → n ≡ 0 → 0 ≡ round_up page n
-round_none page n pp e =
-    let d : (n + (page - 1)) / page ≡ 0 = div-eq_of_lt (let l : n + (page - 1) < page = omega arith in l) in
-    let m : (n + (page - 1)) / page * page ≡ 0 = ap (λ (k : ℕ). k * page) d ∙ zero-mul page in
-    omega (arith, m)
-
-pub round_some : (page n r : ℕ) → 0 < page → 0 < n → r ≡ min (((n - 1) / page + 1) * page) MAX → r ≡ round_up page n
-round_some page n r pp np e =
-    let d = ap (λ (k : ℕ). k * page) (ceil n page pp np) in
+pub round_up_is : (page n r : ℕ) → 0 < page → r ≡ min ((n / page + min 1 (n % page)) * page) MAX → r ≡ round_up page n
+round_up_is page n r pp e =
+    let d = ap (λ (k : ℕ). k * page) (ceil n page pp) in
     omega (arith, d)

@@ -9,7 +9,6 @@ ghost use Rattle.journal.specs.Trimming.{Finds, adding};
 
 use crate::config::Config;
 use crate::fault::StoreFault;
-use crate::positions::position_to_blob;
 use crate::steps;
 use record::record::Record;
 use store::store::Store;
@@ -38,7 +37,7 @@ fn seal<S: Store>(store: &mut S, config: Config, end: u64, b: u64) -> Result<(),
     requires { end < MAX }
     ensures { TookAll (if aligned (ruled config) (end + 1) then Sync b ∷ [] else []) (S.view store.old) result (S.view store.new) }
 {
-    if (end + 1) % config.records != 0 {
+    if !config.is_aligned(end + 1) {
         return Ok(());
     }
     steps::sync(store, b)
@@ -53,7 +52,7 @@ fn add_bytes<S: Store>(
     requires { end < MAX }
     ensures { TookAll (adding (ruled config) end bytes.now) (S.view store.old) result (S.view store.new) }
 {
-    let b = position_to_blob(config, end);
+    let b = config.blob_of(end);
     steps::append(store, b, bytes)?;
     seal(store, config, end, b)
 }
@@ -67,7 +66,7 @@ fn write_bytes<S: Store>(
     requires { end < MAX }
     ensures { Asks (open_if (has (blob_of (ruled config) end) (numbers (S.view store.old).disk.blobs)) (blob_of (ruled config) end) ++ adding (ruled config) end bytes.now) (S.view store.old) result (S.view store.new) }
 {
-    ensure_blob(store, position_to_blob(config, end))?;
+    ensure_blob(store, config.blob_of(end))?;
     add_bytes(store, config, end, bytes)
 }
 

@@ -17,7 +17,7 @@ use store::store::Store;
 fn note_boundary<S: Store>(store: &mut S, config: Config, boundary: u64) -> Result<(), StoreFault>
     ensures { Took (if aligned (ruled config) boundary then DropKey Hint else Put Hint boundary) (S.view store.old) result (S.view store.new) }
 {
-    if boundary % config.records == 0 {
+    if config.is_aligned(boundary) {
         steps::drop_key(store, Key::Hint)
     } else {
         steps::put(store, Key::Hint, boundary)
@@ -42,10 +42,10 @@ pub(crate) fn persist<S: Store>(
 fn lower_watermark<S: Store>(store: &mut S, limit: u64) -> Result<(), StoreFault>
     ensures { Asks (if is_above (S.view store.old).disk.present.watermark limit then Put Watermark limit ∷ [] else []) (S.view store.old) result (S.view store.new) }
 {
-    match steps::look(store, Key::Watermark)? {
-        Some(mark) if mark > limit => steps::put(store, Key::Watermark, limit),
-        _ => Ok(()),
+    if steps::look(store, Key::Watermark)?.is_some_and(|mark| mark > limit) {
+        steps::put(store, Key::Watermark, limit)?;
     }
+    Ok(())
 }
 
 fn intend<S: Store>(store: &mut S, target: u64) -> Result<(), StoreFault>

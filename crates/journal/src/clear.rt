@@ -27,7 +27,7 @@ fn remove_all<S: Store>(store: &mut S) -> Result<(), StoreFault>
 fn begin_at<S: Store>(store: &mut S, config: Config, target: u64) -> Result<(), StoreFault>
     ensures { TookAll (Open (blob_of (ruled config) target) ∷ (DropKey Target ∷ persisting (ruled config) target target)) (S.view store.old) result (S.view store.new) }
 {
-    steps::open(store, target / config.records)?;
+    steps::open(store, config.blob_of(target))?;
     checkpoint::finish_clear(store, config, target)
 }
 

@@ -8,7 +8,6 @@ ghost use Rattle.journal.specs.Reading.{ReadOne};
 use crate::config::Config;
 use crate::fault::Fault;
 use crate::log::{Held, Log};
-use crate::positions::{offset_of, position_to_blob};
 use crate::steps;
 use record::record::Record;
 use store::store::Store;
@@ -24,12 +23,9 @@ fn fetch<S: Store, K: Record>(
     requires { length bytes.old ≡ config.size }
     ensures { ReadOne (reading K.decode (ruled config) start (S.view store.now) (position ∷ [])) result }
 {
-    let at = offset_of(config, start, position);
-    steps::read(store, position_to_blob(config, position), at, bytes)?;
-    match K::read(bytes) {
-        Some(item) => Ok(item),
-        None => Err(Fault::Codec(position)),
-    }
+    let at = config.offset_of(start, position);
+    steps::read(store, config.blob_of(position), at, bytes)?;
+    K::read(bytes).ok_or(Fault::Codec(position))
 }
 
 fn read_record<S: Store, K: Record>(

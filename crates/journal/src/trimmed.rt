@@ -70,7 +70,7 @@ impl<S: Store, K> Trimmed<S, K> {
     pub fn prune(mut self, position: u64) -> Result<(Trimmed<S, K>, bool), Lost<S>>
         ensures { Pruned S.view self position result }
     {
-        let b = position.min(self.held.end) / self.config.records;
+        let b = self.config.blob_of(position.min(self.held.end));
         let first = b * self.config.records;
         if first <= self.held.start {
             return Ok((self, false));

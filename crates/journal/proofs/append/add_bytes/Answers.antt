@@ -12,7 +12,7 @@ returns g c =
     let rule = ruled c.args.config in
     let u = g.S.Store.view c.append.new.store in
     let w = g.S.Store.view c.seal.new.store in
-    let b = c.position_to_blob-b.result in
+    let b = c.blob_of-b.result in
     let bs = c.args.bytes.now in
-    subst (λ (k : ℕ). TookAll (Append k bs ∷ cond (aligned rule (c.args.end + 1)) (Sync k ∷ []) []) v c.seal.result w) c.position_to_blob-b.ensures
+    subst (λ (k : ℕ). TookAll (Append k bs ∷ cond (aligned rule (c.args.end + 1)) (Sync k ∷ []) []) v c.seal.result w) c.blob_of-b.ensures
     (next (Append b bs) (cond (aligned rule (c.args.end + 1)) (Sync b ∷ []) []) v u w c.seal.result c.in_ok-append.ensures c.seal.ensures)

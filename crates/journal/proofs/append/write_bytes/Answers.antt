@@ -15,7 +15,7 @@ returns-in_err-ensure_blob g c =
     let rule = ruled c.args.config in
     let w = g.S.Store.view c.ensure_blob.new.store in
     let y = c.in_err-ensure_blob.field-0.0 in
-    let h = subst (λ (b : ℕ). Halts (open_if (has b (numbers v.disk.blobs)) b) v y w) c.position_to_blob.ensures c.in_err-ensure_blob.ensures in
+    let h = subst (λ (b : ℕ). Halts (open_if (has b (numbers v.disk.blobs)) b) v y w) c.blob_of.ensures c.in_err-ensure_blob.ensures in
     let p = err_from_is_err_and c.from_residual.result c.from_residual.ensures.1 in
     rw (p.1, p.2)
     (asks_early (open_if (has (blob_of rule c.args.end) (numbers v.disk.blobs)) (blob_of rule c.args.end)) (adding rule c.args.end c.args.bytes.now) v w y h)
@@ -26,6 +26,6 @@ returns g c =
     let rule = ruled c.args.config in
     let u = g.S.Store.view c.ensure_blob.new.store in
     let h = c.in_ok-ensure_blob.ensures in
-    let d = subst (λ (b : ℕ). AllDone (open_if (has b (numbers v.disk.blobs)) b) v u) c.position_to_blob.ensures h.1 in
+    let d = subst (λ (b : ℕ). AllDone (open_if (has b (numbers v.disk.blobs)) b) v u) c.blob_of.ensures h.1 in
     asks_then (open_if (has (blob_of rule c.args.end) (numbers v.disk.blobs)) (blob_of rule c.args.end)) (adding rule c.args.end c.args.bytes.now) v u
     (g.S.Store.view c.add_bytes.new.store) c.add_bytes.result (h.0, d) c.add_bytes.ensures

@@ -8,7 +8,7 @@ use Rattle.rules.specs.Rules.{MAX, Config, blob_of, first_in, Copied}
 use Rattle.rules.specs.Reads.{bytes_of}
 use Rattle.journal.specs.declared.fault.Step.TheVariants as at
 use Rattle.journal.specs.Configs.{ruled}
-use Rattle.journal.proofs.Readings.{read_past, read_some, read_none, read_stop}
+use Rattle.journal.proofs.Readings.{read_past, read_as, read_stop}
 use Rattle.journal.proofs.reads.fetch.Goals as goal
 
 -- what was asked of the store is what the rules ask of it
@@ -25,25 +25,16 @@ returns-in_err-read g c =
     let rule = ruled c.args.config in
     let h = c.in_err-read.ensures in
     let y = c.in_err-read.field-0.0 in
-    let e = same rule c.args.start v c.args.position c.position_to_blob.result c.offset_of-at.result (length c.args.bytes.now) (Err y.cause) (g.met.S.Store.lawful c.args.store.now) c.args.config.ok.2 c.position_to_blob.ensures c.offset_of-at.ensures c.requires h.1 in
+    let e = same rule c.args.start v c.args.position c.blob_of.result c.offset_of-at.result (length c.args.bytes.now) (Err y.cause) (g.met.S.Store.lawful c.args.store.now) c.args.config.ok.2 c.blob_of.ensures c.offset_of-at.ensures c.requires h.1 in
     let p = err_from_is_err_and c.from_residual.result c.from_residual.ensures.1 in
     rw (p.1, p.2)
-    (Copied (blob_of rule c.args.position), h.0 ∙ ap at.Copied c.position_to_blob.ensures, read_stop g.K.Record.decode rule c.args.start v c.args.position y.cause e)
+    (Copied (blob_of rule c.args.position), h.0 ∙ ap at.Copied c.blob_of.ensures, read_stop g.K.Record.decode rule c.args.start v c.args.position y.cause e)
 
-pub returns-in-Some : goal.returns-in-Some
-returns-in-Some g c =
+pub returns : goal.returns
+returns g c =
     let v = g.S.Store.view c.args.store.now in
     let rule = ruled c.args.config in
     let bs = c.read.new.out in
-    let e = same rule c.args.start v c.args.position c.position_to_blob.result c.offset_of-at.result (length c.args.bytes.now) (Ok bs) (g.met.S.Store.lawful c.args.store.now) c.args.config.ok.2 c.position_to_blob.ensures c.offset_of-at.ensures c.requires c.in_ok-read.ensures in
+    let e = same rule c.args.start v c.args.position c.blob_of.result c.offset_of-at.result (length c.args.bytes.now) (Ok bs) (g.met.S.Store.lawful c.args.store.now) c.args.config.ok.2 c.blob_of.ensures c.offset_of-at.ensures c.requires c.in_ok-read.ensures in
     let l : length bs ≡ rule.z = omega arith in
-    read_some g.K.Record.decode rule c.args.start v c.args.position bs c.in-Some.item e l (sym c.in-Some.ensures)
-
-pub returns-in-None : goal.returns-in-None
-returns-in-None g c =
-    let v = g.S.Store.view c.args.store.now in
-    let rule = ruled c.args.config in
-    let bs = c.read.new.out in
-    let e = same rule c.args.start v c.args.position c.position_to_blob.result c.offset_of-at.result (length c.args.bytes.now) (Ok bs) (g.met.S.Store.lawful c.args.store.now) c.args.config.ok.2 c.position_to_blob.ensures c.offset_of-at.ensures c.requires c.in_ok-read.ensures in
-    let l : length bs ≡ rule.z = omega arith in
-    read_none g.K.Record.decode rule c.args.start v c.args.position bs e l (sym c.in-None.ensures)
+    rw c.ok_or.ensures.value (read_as g.K.Record.decode rule c.args.start v c.args.position bs c.read-2.result e l (sym c.read-2.ensures))

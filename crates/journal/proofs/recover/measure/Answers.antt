@@ -1,28 +1,16 @@
-use Rattle.std.proofs.Common.{ℕ, Ok, Err, sym, subst}
 use Rattle.std.proofs.lemmas.Result.{err_from_is_err_and}
-use Rattle.rules.specs.Open.{below, edge_at, walk_all, weigh, Walked}
+use Rattle.rules.specs.Open.{below, edge_at, walk_all}
 use Rattle.journal.specs.Configs.{ruled}
-use Rattle.journal.specs.Recovery.{Settles, Walks}
 use Rattle.journal.proofs.Recovering.{weigh_wrong}
 use Rattle.journal.proofs.recover.measure.Goals as goal
 
 pub returns-in_err-walked : goal.returns-in_err-walked
 returns-in_err-walked g c =
-    let v = g.S.Store.view c.args.store.now in
+    let v = g.S.Store.view c.args.live.now.store.now in
     let s = c.args.scope in
     let rule = ruled s.config in
     let E = edge_at rule s.start s.ceiling in
     let f = c.in_err-walked.field-0.0 in
-    let h = subst (λ (n : ℕ). Walks (walk_all rule s.start (below n v.disk.blobs)) (Err f)) c.edge_at-edge.ensures c.in_err-walked.ensures in
+    let h = c.in_err-walked.ensures in
     let p = err_from_is_err_and c.from_residual.result c.from_residual.ensures.1 in
     rw (p.1, p.2) (weigh_wrong rule s.start E s.ceiling c.args.mark (walk_all rule s.start (below E v.disk.blobs)) f h)
-
-pub returns : goal.returns
-returns g c =
-    let v = g.S.Store.view c.args.store.now in
-    let s = c.args.scope in
-    let rule = ruled s.config in
-    let E = edge_at rule s.start s.ceiling in
-    let x = c.in_ok-walked.walked in
-    let h = subst (λ (n : ℕ). Walks (walk_all rule s.start (below n v.disk.blobs)) (Ok x)) c.edge_at-edge.ensures c.in_ok-walked.ensures in
-    subst (λ (q : Walked). Settles (weigh rule s.start s.ceiling E c.args.mark q) c.weigh.result) (sym h) c.weigh.ensures

@@ -1,26 +1,17 @@
-use Rattle.std.proofs.Common.{◌≡◌, ℕ, ◌/◌, min, refl, ap}
+use Rattle.std.proofs.Common.{◌≡◌, min, refl, ap, ◌∙◌}
 use Rattle.rules.specs.Rules.{blob_of}
 use Rattle.journal.specs.Configs.{ruled}
 use Rattle.journal.specs.Logs.{held_of}
-use Rattle.journal.proofs.Pruning.{prune_done, prune_stopped, prune_kept}
+use Rattle.journal.proofs.Pruning.{prune_done, prune_stopped}
 use Rattle.journal.proofs.trimmed.Trimmed+S+K.prune.Goals as goal
-
-pub returns-then-first-self : goal.returns-then-first-self
-returns-then-first-self g c =
-    let l = c.args.self in
-    let v = g.S.Store.view l.store in
-    let rule = ruled l.config in
-    let b = c.min.result / l.config.records in
-    let e : b ≡ blob_of rule (min c.args.position l.held.end) = ap (λ (k : ℕ). k / l.config.records) c.min.ensures in
-    (prune_kept rule (held_of l.held) v c.args.position b e c.if-first-self.true, refl)
 
 pub returns-in-Ok : goal.returns-in-Ok
 returns-in-Ok g c =
     let l = c.args.self in
     let v = g.S.Store.view l.store in
     let rule = ruled l.config in
-    let b = c.min.result / l.config.records in
-    let e : b ≡ blob_of rule (min c.args.position l.held.end) = ap (λ (k : ℕ). k / l.config.records) c.min.ensures in
+    let b = c.blob_of-b.result in
+    let e : b ≡ blob_of rule (min c.args.position l.held.end) = c.blob_of-b.ensures ∙ ap (blob_of rule) c.min.ensures in
     (prune_done rule (held_of l.held) v c.args.position b e (g.S.Store.view c.prune_to.new.store) c.if-first-self.false c.in-Ok.ensures, refl)
 
 pub returns-in-Err : goal.returns-in-Err
@@ -28,7 +19,6 @@ returns-in-Err g c =
     let l = c.args.self in
     let v = g.S.Store.view l.store in
     let rule = ruled l.config in
-    let b = c.min.result / l.config.records in
-    let e : b ≡ blob_of rule (min c.args.position l.held.end) = ap (λ (k : ℕ). k / l.config.records) c.min.ensures in
-    rw c.end.ensures
-    (prune_stopped rule (held_of l.held) v c.args.position b e (g.S.Store.view c.prune_to.new.store) c.in-Err.e c.if-first-self.false c.in-Err.ensures)
+    let b = c.blob_of-b.result in
+    let e : b ≡ blob_of rule (min c.args.position l.held.end) = c.blob_of-b.ensures ∙ ap (blob_of rule) c.min.ensures in
+    rw c.end.ensures (prune_stopped rule (held_of l.held) v c.args.position b e (g.S.Store.view c.prune_to.new.store) c.in-Err.e c.if-first-self.false c.in-Err.ensures)
