@@ -77,13 +77,9 @@ module _ (f : ℕ → Op) (ns : List ℕ) where
 
 -- a question that is answered whatever the blobs are: the store is up, or it is down
 module _ {X : Type 0} where
-  pub answered_up : (b : Bool) (y : Result X Cause) (x : X) → cond b y (Err Power) ≡ Ok x → b ≡ true
-  answered_up true y x e = refl
-  answered_up false y x e = impossible (let z : ◌≡◌ {A = ℕ} 0 1 = cc in z)
-
-  pub answered_it : (b : Bool) (y : X) (x : X) → ◌≡◌ {A = Result X Cause} (cond b (Ok y) (Err Power)) (Ok x) → y ≡ x
-  answered_it true y x e = cc
-  answered_it false y x e = impossible (let z : ◌≡◌ {A = ℕ} 0 1 = cc in z)
+  pub answers : (b : Bool) (y : X) (x : X) → ◌≡◌ {A = Result X Cause} (cond b (Ok y) (Err Power)) (Ok x) → (b ≡ true) × (y ≡ x)
+  answers true y x e = (refl, cc)
+  answers false y x e = impossible (let z : ◌≡◌ {A = ℕ} 0 1 = cc in z)
 
   pub refused_down : (b : Bool) (y : X) (c : Cause) → ◌≡◌ {A = Result X Cause} (cond b (Ok y) (Err Power)) (Err c) → (b ≡ false) × (c ≡ Power)
   refused_down true y c e = impossible (let z : ◌≡◌ {A = ℕ} 0 1 = cc in z)

@@ -16,7 +16,7 @@ use Rattle.journal.specs.declared.fault.Step.{Step}
 use Rattle.journal.specs.declared.fault.StoreFault.{StoreFault}
 use Rattle.journal.specs.Steps.{Asked}
 use Rattle.journal.specs.Recovery.{rest, Fills, Gives, Walks}
-use Rattle.journal.proofs.Taken.{answered_it, impossible}
+use Rattle.journal.proofs.Taken.{answers, impossible}
 
 -- rising from lo on
 abbrev pub Up : ℕ → Blobs → Type 0
@@ -148,7 +148,7 @@ never_down true y c u e = impossible (let z : ◌≡◌ {A = ℕ} 0 1 = cc in z)
 never_down false y c u e = impossible (let z : ◌≡◌ {A = ℕ} 0 1 = cc in z)
 
 pub gives : {A : Type 0} (s : Step) (up : Bool) (y : A) (r : Result A StoreFault) → up ≡ true → Asked s (cond up (Ok y) (Err Power)) r → Gives y r
-gives s up y (Ok x) u q = sym (answered_it up y x q)
+gives s up y (Ok x) u q = sym (answers up y x q).1
 gives s up y (Err e) u q = never_down up y e.cause u q.1
 
 pub more_is : (b : ℕ) (xs : Blobs) → is_some (at_or_above b xs) ≡ not (eqb (length (rest b xs)) 0)

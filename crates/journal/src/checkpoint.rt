@@ -62,15 +62,3 @@ pub(crate) fn stage_clear<S: Store>(store: &mut S, target: u64) -> Result<(), St
     lower_watermark(store, target)?;
     intend(store, target)
 }
-
-// Completes a clear: the target goes, and it is the boundary and the watermark.
-pub(crate) fn finish_clear<S: Store>(
-    store: &mut S,
-    config: Config,
-    target: u64,
-) -> Result<(), StoreFault>
-    ensures { TookAll (DropKey Target ∷ persisting (ruled config) target target) (S.view store.old) result (S.view store.new) }
-{
-    steps::drop_key(store, Key::Target)?;
-    persist(store, config, target, target)
-}

@@ -17,5 +17,6 @@ mod scope;
 pub mod staged;
 mod steps;
 mod suspects;
+mod sweep;
 pub mod trimmed;
 mod walk;

@@ -1,5 +1,5 @@
 // A store that is up, to be asked what it holds.
-ghost use Rattle.std.specs.Prelude.{◌≡◌, true, nat_lt};
+ghost use Rattle.std.specs.Prelude.{◌≡◌, true};
 ghost use Rattle.store.specs.Disk.{at_or_above};
 ghost use Rattle.rules.specs.Open.{below};
 ghost use Rattle.journal.specs.Logs.{edge_of};
@@ -16,19 +16,12 @@ pub struct Live<'a, S: Store> {
     ghost up: { (S.view store.now).up ≡ true },
 }
 
-fn is_below(edge: Option<u64>, b: u64) -> bool
-    ensures { result ≡ nat_lt b (edge_of edge) }
-{
-    edge.is_none_or(|edge| b < edge)
-}
-
 impl<'a, S: Store> Live<'a, S> {
     // The lowest blob from b on that is not set aside.
     pub fn next_below(&self, b: u64, edge: Option<u64>) -> Result<Option<u64>, StoreFault>
         ensures { Gives (at_or_above b (below (edge_of edge) (S.view self.now.store.now).disk.blobs)) result }
     {
-        let found = steps::at_or_above(self.store, b)?;
-        Ok(found.filter(|found| is_below(edge, *found)))
+        steps::next_below(self.store, b, edge)
     }
 
     // Whether there are blobs above b that are not set aside.

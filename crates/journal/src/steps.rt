@@ -1,7 +1,9 @@
 // The calls of a store, whose refusals name the step.
-ghost use Rattle.std.specs.Prelude.{◌≡◌, length};
-ghost use Rattle.store.specs.Ask.{above_of, below_of, length_of, scan_of, key_of, read_of};
-ghost use Rattle.store.specs.Disk.{Append, Open, Truncate, Sync, Remove, Put, DropKey, SyncKeys};
+ghost use Rattle.std.specs.Prelude.{◌≡◌, length, nat_lt};
+ghost use Rattle.store.specs.Ask.{while_up, above_of, below_of, length_of, scan_of, key_of, read_of};
+ghost use Rattle.store.specs.Disk.{at_or_above, Append, Open, Truncate, Sync, Remove, Put, DropKey, SyncKeys};
+ghost use Rattle.rules.specs.Open.{below};
+ghost use Rattle.journal.specs.Logs.{edge_of};
 ghost use Rattle.journal.specs.Steps.{Asked, Took, Read, named};
 ghost use Rattle.journal.specs.declared.fault.Step.TheVariants.{Listed, Measured, Scanned, Looked};
 
@@ -57,6 +59,20 @@ pub fn at_or_above<S: Store>(store: &S, b: u64) -> Result<Option<u64>, StoreFaul
     ensures { Asked Listed (above_of (S.view store.now) b) result }
 {
     named(Step::Listed, store.at_or_above(b))
+}
+
+fn is_below(edge: Option<u64>, b: u64) -> bool
+    ensures { result ≡ nat_lt b (edge_of edge) }
+{
+    edge.is_none_or(|edge| b < edge)
+}
+
+// The lowest number from b on, if it is below an edge.
+pub fn next_below<S: Store>(store: &S, b: u64, edge: Option<u64>) -> Result<Option<u64>, StoreFault>
+    ensures { Asked Listed (while_up (S.view store.now) (Ok (at_or_above b (below (edge_of edge) (S.view store.now).disk.blobs)))) result }
+{
+    let found = at_or_above(store, b)?;
+    Ok(found.filter(|found| is_below(edge, *found)))
 }
 
 pub fn look<S: Store>(store: &S, k: Key) -> Result<Option<u64>, StoreFault>

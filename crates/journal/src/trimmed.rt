@@ -8,32 +8,16 @@ ghost use Rattle.journal.specs.Trimming.{Appended, Pruned, Synced};
 ghost use Rattle.journal.specs.declared.fault.Fault.TheVariants.{BadConfig};
 ghost use Rattle.journal.specs.declared.log.Stop.TheVariants.{Refused};
 
-use crate::append::write_record;
+use crate::append::Tail;
 use crate::checkpoint::persist;
 use crate::config::Config;
 use crate::fault::{Fault, StoreFault};
 use crate::log::{Held, Lost, Stop, Trimmed};
 use crate::prune::prune_to;
-use crate::steps;
+use crate::sweep::sync_all;
 use record::record::Record;
+use std::marker::PhantomData;
 use store::store::Store;
-
-// Syncs the blobs, lowest first.
-pub(crate) fn sync_all<S: Store>(store: &mut S) -> Result<(), StoreFault>
-    ensures { Asks (map Sync (numbers (S.view store.old).disk.blobs)) (S.view store.old) result (S.view store.new) }
-{
-    let mut at = 0;
-    'blobs: loop {
-        let Some(b) = steps::at_or_above(store, at)? else {
-            return Ok(());
-        };
-        steps::sync(store, b)?;
-        if b == u64::MAX {
-            return Ok(());
-        }
-        at = b + 1;
-    }
-}
 
 fn sync_and_persist<S: Store>(
     store: &mut S,
@@ -102,7 +86,12 @@ impl<S: Store, K: Record> Trimmed<S, K> {
         if end == u64::MAX {
             return Err(Stop::Refused(self, Fault::SizeOverflow));
         }
-        match write_record(&mut self.store, self.config, end, item) {
+        let tail = Tail {
+            config: self.config,
+            end,
+            kind: PhantomData,
+        };
+        match tail.write(&mut self.store, item) {
             Ok(()) => {
                 self.held = Held {
                     end: end + 1,

@@ -1,10 +1,10 @@
-use Rattle.std.proofs.Common.{Ok, sym, inl}
+use Rattle.std.proofs.Common.{sym, inl}
 use Rattle.std.proofs.lemmas.Result.{err_from_is_err_and}
 use Rattle.store.specs.declared.keys.Key.TheVariants.{Watermark}
 use Rattle.rules.specs.Rules.{Looked}
 use Rattle.journal.specs.Configs.{ruled}
 use Rattle.journal.specs.Recovery.{spanned}
-use Rattle.journal.proofs.Taken.{answered_it, answered_up, refused_down}
+use Rattle.journal.proofs.Taken.{answers, refused_down}
 use Rattle.journal.proofs.Recovering.{open_down, span_stops}
 use Rattle.journal.proofs.recover.recover_span.Goals as goal
 
@@ -24,9 +24,7 @@ returns-in_err-examine_two g c =
     let s = c.args.scope in
     let rule = ruled s.config in
     let w = g.S.Store.view c.examine_two.new.store in
-    let q = c.in_ok-mark.ensures in
-    let up = answered_up v.up (Ok v.disk.present.watermark) c.in_ok-mark.mark q in
-    let m = answered_it v.up v.disk.present.watermark c.in_ok-mark.mark q in
+    let q = answers v.up v.disk.present.watermark c.in_ok-mark.mark c.in_ok-mark.ensures in
     let p = err_from_is_err_and c.from_residual-in_err-examine_two.result c.from_residual-in_err-examine_two.ensures.1 in
-    let h = span_stops rule s.start s.ceiling v w c.floor.result c.in_ok-mark.mark (sym m) c.floor.ensures c.in_err-examine_two.field-0.0 c.in_err-examine_two.ensures in
-    rw (p.1, p.2) (h.0, h.1, inl (up, h.2))
+    let h = span_stops rule s.start s.ceiling v w c.floor.result c.in_ok-mark.mark (sym q.1) c.floor.ensures c.in_err-examine_two.field-0.0 c.in_err-examine_two.ensures in
+    rw (p.1, p.2) (h.0, h.1, inl (q.0, h.2))

@@ -14,10 +14,10 @@ pub returns-in-Ok : goal.returns-in-Ok
 returns-in-Ok g c =
     let l = c.args.self in
     let m : l.held.end < MAX = omega arith in
-    record { sized = λ sized. (append_done (ruled l.config) (held_of l.held) (g.S.Store.view l.store) (g.K.Record.encode c.args.item) (g.S.Store.view c.write_record.new.store) m (c.in-Ok.ensures sized), refl); other = λ n. absurd (n (sym c.size.ensures ∙ c.if-size-self.false)) }
+    record { sized = λ sized. (append_done (ruled l.config) (held_of l.held) (g.S.Store.view l.store) (g.K.Record.encode c.args.item) (g.S.Store.view c.write.new.store) m c.in-Ok.ensures, refl); other = λ n. absurd (n (sym c.size.ensures ∙ c.if-size-self.false)) }
 
 pub returns-in-Err : goal.returns-in-Err
 returns-in-Err g c =
     let l = c.args.self in
     let m : l.held.end < MAX = omega arith in
-    record { sized = λ sized. rw (c.into.ensures, c.end.ensures) (append_stopped (ruled l.config) (held_of l.held) (g.S.Store.view l.store) (g.K.Record.encode c.args.item) (g.S.Store.view c.write_record.new.store) c.in-Err.e m (c.in-Err.ensures sized)); other = λ n. absurd (n (sym c.size.ensures ∙ c.if-size-self.false)) }
+    record { sized = λ sized. rw (c.into.ensures, c.end.ensures) (append_stopped (ruled l.config) (held_of l.held) (g.S.Store.view l.store) (g.K.Record.encode c.args.item) (g.S.Store.view c.write.new.store) c.in-Err.e m c.in-Err.ensures); other = λ n. absurd (n (sym c.size.ensures ∙ c.if-size-self.false)) }

@@ -3,7 +3,7 @@ use Rattle.store.specs.Disk.{View, Sync, numbers}
 use Rattle.rules.specs.Calls.{from}
 use Rattle.journal.specs.declared.fault.StoreFault.{StoreFault}
 use Rattle.journal.specs.Steps.{Asks}
-use Rattle.journal.proofs.trimmed.sync_all.Given as goal
+use Rattle.journal.proofs.sweep.sync_all.Given as goal
 
 -- what the rest of the calls leads to from here, all of them lead to from the entry
 abbrev pub invariant-blobs : goal.invariant-blobs
