@@ -6,7 +6,6 @@ use Rattle.store.specs.Disk.{Blob, Blobs, View, numbers, at_or_above, change}
 use Rattle.store.specs.Laws.{Lawful}
 use Rattle.store.proofs.Places.{above_none}
 use Rattle.store.proofs.Places.{length_numbers as count_numbers}
-use Rattle.rules.specs.Rules.{MAX}
 use Rattle.rules.specs.Calls.{from, has}
 use Rattle.journal.proofs.Taken.{impossible}
 use Rattle.journal.proofs.Walking.{Up, above_le}
@@ -56,10 +55,10 @@ pub numbers_change : (f : Blob → Blob) (b : ℕ) (xs : Blobs) → numbers (cha
 numbers_change f b [] = refl
 numbers_change f b (x ∷ xs) = elim (cases_Bool (eqb x.0 b)) [ inl t ↦ simp t | inr t ↦ simp t (ap (λ (ms : List ℕ). x.0 ∷ ms) (numbers_change f b xs)) ]
 
-pub from_past : (v : View) (b : ℕ) → Lawful v → b ≡ MAX → from (b + 1) (numbers v.disk.blobs) ≡ []
+pub from_past : (v : View) (b : ℕ) → Lawful v → (b + 1 < 18446744073709551616 → ⊥) → from (b + 1) (numbers v.disk.blobs) ≡ []
 from_past v b laws h =
     let n = count_numbers v.disk.blobs in
-    from_none (b + 1) v.disk.blobs (above_none (b + 1) v.disk.blobs (λ k l. let q = laws.fits k (omega arith) in omega arith))
+    from_none (b + 1) v.disk.blobs (above_none (b + 1) v.disk.blobs (λ k l. let q = laws.fits k (omega arith) in omega (arith, h)))
 
 -- whether a number is listed
 pub has_above : (b : ℕ) (xs : Blobs) → Up (b + 1) xs → has b (numbers xs) ≡ false

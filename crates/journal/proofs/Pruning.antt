@@ -1,6 +1,6 @@
 -- Blobs below a number.
 use Rattle.std.proofs.Common.{◌≡◌, ℕ, suc, ◌+◌, ◌*◌, ◌<◌, ◌≤◌, min, Bool, true, false, cond, eqb, ltb, leb, List, [], ◌∷◌, ◌++◌, map, Some, None, Ok, Err, Result, sym, refl, ap, ◌∙◌, subst, inl, inr, arith}
-use Rattle.std.proofs.lemmas.Bool.{lt-ltb, le-ltb, le-leb, lt-leb, eq-eqb, cases_lt, cases_Bool}
+use Rattle.std.proofs.lemmas.Bool.{lt-ltb, le-ltb, lt-leb, eq-eqb, cases_lt, cases_Bool}
 use Rattle.store.specs.Disk.{Blobs, Disk, View, Op, Open, Remove, Sync, numbers, insert, without, at_or_above, synced}
 use Rattle.rules.specs.Rules.{Config, Plan, answer, calls, answered, stopped, Follows, blob_of}
 use Rattle.store.specs.Laws.{Below}
@@ -94,9 +94,3 @@ module _ (c : Config) (o : Opened) (v : View) (p b : ℕ) (eb : b ≡ blob_of c 
   prune_stopped w e l h =
       let q = told_stops (follows_stop (answer (pruned_to, true)) pruning v w e h) in
       (q.0, q.1, q.2, subst (λ (k : Plan (Opened × Bool)). Follows k v (stopped q.0 q.1) w) (sym (rule_is l)) q.3)
-
-  pub prune_kept : b * c.n ≤ o.start → Follows (trimmed_prune_rule c v.disk o p) v (answered (o, false)) v
-  prune_kept l =
-      let t = le-leb (blob_of c (min p o.end) * c.n) o.start (omega (arith, ap (λ (m : ℕ). m * c.n) eb)) in
-      let e : trimmed_prune_rule c v.disk o p ≡ answer (o, false) = simp t in
-      subst (λ (q : Plan (Opened × Bool)). Follows q v (answered (o, false)) v) (sym e) (refl, refl)

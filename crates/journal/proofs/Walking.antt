@@ -9,13 +9,13 @@ use Rattle.store.specs.Disk.{Blob, Blobs, View, find, numbers, at_or_above}
 use Rattle.store.specs.Laws.{Rising, Lawful}
 use Rattle.store.proofs.Places.{length_numbers, above_none}
 use Rattle.rules.specs.Rules.{Config, MAX}
-use Rattle.rules.specs.Open.{below, capacity, walk, walk_all, stands}
+use Rattle.rules.specs.Open.{below, capacity, walk, stands}
 use Rattle.journal.specs.declared.fault.Fault.{Fault}
 use Rattle.journal.specs.declared.walk.Filled.TheVariants.{Full, Short}
 use Rattle.journal.specs.declared.fault.Step.{Step}
 use Rattle.journal.specs.declared.fault.StoreFault.{StoreFault}
 use Rattle.journal.specs.Steps.{Asked}
-use Rattle.journal.specs.Recovery.{rest, Fills, Gives, Walks}
+use Rattle.journal.specs.Recovery.{rest, is_more, Fills, Gives, Walks}
 use Rattle.journal.proofs.Taken.{answers, impossible}
 
 -- rising from lo on
@@ -159,10 +159,13 @@ more_is b (x ∷ xs) = elim (cases_lt x.0 b) [
 ]
 
 -- no number is above the largest
-pub nothing_past : (v : View) (b e : ℕ) → Lawful v → b ≡ MAX → at_or_above (b + 1) (below e v.disk.blobs) ≡ None
+pub nothing_past : (v : View) (b e : ℕ) → Lawful v → (b + 1 < 18446744073709551616 → ⊥) → at_or_above (b + 1) (below e v.disk.blobs) ≡ None
 nothing_past v b e laws h =
     let n = length_numbers v.disk.blobs in
-    next_none (b + 1) e v.disk.blobs (above_none (b + 1) v.disk.blobs (λ k l. let q = laws.fits k (omega arith) in omega arith))
+    next_none (b + 1) e v.disk.blobs (above_none (b + 1) v.disk.blobs (λ k l. let q = laws.fits k (omega arith) in omega (arith, h)))
+
+pub none_more : (v : View) (b e : ℕ) → Lawful v → (b + 1 < 18446744073709551616 → ⊥) → is_more b (below e v.disk.blobs) ≡ false
+none_more v b e laws n = sym (more_is (b + 1) (below e v.disk.blobs)) ∙ ap (is_some {T = ℕ}) (nothing_past v b e laws n)
 
 -- what the walk makes of the next blob
 module _ (c : Config) (s size b : ℕ) where
@@ -190,20 +193,6 @@ up_all v laws = up_rising 0 v.disk.blobs laws.rising (λ h. omega arith)
 
 pub up_store : (v : View) (e : ℕ) → Lawful v → Up 0 (below e v.disk.blobs)
 up_store v e laws = up_below 0 e v.disk.blobs (up_rising 0 v.disk.blobs laws.rising (λ h. omega arith))
-
--- the walk over all blobs begins at the lowest
-pub walk_all_lem : (c : Config) (s n : ℕ) (xs : Blobs) → Up 0 xs → at_or_above 0 xs ≡ Some n → walk_all c s xs ≡ walk c s s n (rest n xs)
-walk_all_lem c s n [] u e = impossible (let z : ◌≡◌ {A = ℕ} 0 1 = cc in z)
-walk_all_lem c s n (x ∷ xs) u e =
-    let t = le-ltb x.0 0 (omega arith) in
-    let q : Some x.0 ≡ Some n = simp t at e in
-    let p : x.0 ≡ n = cc in
-    let r : rest n (x ∷ xs) ≡ x ∷ xs = (let k = le-ltb x.0 n (omega arith) in simp k) in
-    ap (λ (k : ℕ). walk c s s k (x ∷ xs)) p ∙ ap (walk c s s n) (sym r)
-
-pub walk_empty : (c : Config) (s : ℕ) (xs : Blobs) → at_or_above 0 xs ≡ None → walk_all c s xs ≡ stands s false
-walk_empty c s [] e = refl
-walk_empty c s (x ∷ xs) e = let t = le-ltb x.0 0 (omega arith) in let q : Some x.0 ≡ None = simp t at e in impossible (let z : ◌≡◌ {A = ℕ} 0 1 = cc in z)
 
 -- one turn of the walk, at a blob that is there
 module _ (c : Config) (s size b e : ℕ) (v : View) (laws : Lawful v) (q : at_or_above b (below e v.disk.blobs) ≡ Some b) where

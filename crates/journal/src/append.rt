@@ -24,6 +24,7 @@ pub struct Tail<K: Record> {
     ghost sized: { K.Record.size ≡ config.size },
 }
 
+#[tactic(auto, using(crate::proofs::Listing::has_is, crate::proofs::Walking::up_all, crate::proofs::Taken::answers))]
 fn has_blob<S: Store>(store: &S, b: u64) -> Result<bool, StoreFault>
     ensures { Finds (has b (numbers (S.view store.now).disk.blobs)) (S.view store.now) result }
 {

@@ -16,6 +16,7 @@ pub fn first_position(config: Config, blob: Option<u64>) -> Result<u64, Fault>
 }
 
 // A hint inside the lowest blob is the start, and a lower one is ignored.
+#[tactic(auto, using(crate::proofs::Starting::start_over))]
 pub fn recover_pruning_boundary(
     config: Config,
     hint: Option<u64>,

@@ -25,6 +25,7 @@ fn note_boundary<S: Store>(store: &mut S, config: Config, boundary: u64) -> Resu
 }
 
 // Records the boundary and the watermark; the keys are always synced.
+#[tactic(auto, using(crate::proofs::Taken::next, crate::proofs::Taken::one))]
 pub(crate) fn persist<S: Store>(
     store: &mut S,
     config: Config,
@@ -39,6 +40,7 @@ pub(crate) fn persist<S: Store>(
 }
 
 // Lowers the watermark to a limit if it is above.
+#[tactic(auto, using(crate::proofs::Taken::halts_looked))]
 fn lower_watermark<S: Store>(store: &mut S, limit: u64) -> Result<(), StoreFault>
     ensures { Asks (if is_above (S.view store.old).disk.present.watermark limit then Put Watermark limit ∷ [] else []) (S.view store.old) result (S.view store.new) }
 {
@@ -56,6 +58,7 @@ fn intend<S: Store>(store: &mut S, target: u64) -> Result<(), StoreFault>
 }
 
 // Records the intent to clear to a target.
+#[tactic(auto, using(crate::proofs::Taken::asks_early))]
 pub(crate) fn stage_clear<S: Store>(store: &mut S, target: u64) -> Result<(), StoreFault>
     ensures { Asks (staging (S.view store.old).disk.present target) (S.view store.old) result (S.view store.new) }
 {

@@ -23,6 +23,7 @@ fn begin_at<S: Store>(store: &mut S, config: Config, target: u64) -> Result<(), 
     persist(store, config, target, target)
 }
 
+#[tactic(auto, using(crate::proofs::Taken::asks_then, crate::proofs::Taken::asks_early, crate::proofs::Pruning::up_to_all))]
 pub fn complete_clear<S: Store>(
     store: &mut S,
     config: Config,

@@ -64,6 +64,7 @@ impl Config {
     }
 
     // So many bytes, up to whole pages.
+    #[tactic(auto, using(crate::proofs::Starting::ceil))]
     pub(crate) fn round_up(self, bytes: u64) -> u64
         ensures { result ≡ round_up self.page bytes }
     {

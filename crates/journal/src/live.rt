@@ -25,6 +25,7 @@ impl<'a, S: Store> Live<'a, S> {
     }
 
     // Whether there are blobs above b that are not set aside.
+    #[tactic(auto, using(crate::proofs::Walking::more_is, crate::proofs::Walking::none_more))]
     pub fn more_after(&self, b: u64, edge: Option<u64>) -> Result<bool, StoreFault>
         ensures { Gives (is_more b (below (edge_of edge) (S.view self.now.store.now).disk.blobs)) result }
     {
@@ -35,6 +36,7 @@ impl<'a, S: Store> Live<'a, S> {
     }
 
     // The highest blob below an edge.
+    #[tactic(auto, using(crate::proofs::Highest::below_last, crate::proofs::Highest::below_none, crate::proofs::Walking::gives))]
     pub fn highest_below(&self, edge: Option<u64>) -> Result<Option<u64>, StoreFault>
         ensures { Gives (highest (below (edge_of edge) (S.view self.now.store.now).disk.blobs)) result }
     {

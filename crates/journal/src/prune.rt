@@ -9,6 +9,7 @@ use crate::steps;
 use crate::sweep::{remove_below, sync_all};
 use store::store::Store;
 
+#[tactic(auto, using(crate::proofs::Taken::asks_then, crate::proofs::Taken::asks_early, crate::proofs::Taken::done_up, crate::proofs::Pruning::synced_numbers, crate::proofs::Pruning::asks_took))]
 fn sync_and_remove<S: Store>(store: &mut S, b: u64) -> Result<(), StoreFault>
     ensures { Asks (map Sync (numbers (S.view store.old).disk.blobs) ++ map Remove (up_to b (numbers (S.view store.old).disk.blobs))) (S.view store.old) result (S.view store.new) }
 {
@@ -16,6 +17,7 @@ fn sync_and_remove<S: Store>(store: &mut S, b: u64) -> Result<(), StoreFault>
     remove_below(store, Some(b))
 }
 
+#[tactic(auto, using(crate::proofs::Taken::next, crate::proofs::Pruning::up_to_insert, crate::proofs::Pruning::asks_took))]
 pub fn prune_to<S: Store>(store: &mut S, b: u64) -> Result<(), StoreFault>
     ensures { TookAll (Open b ∷ (map Sync (numbers (insert b (S.view store.old).disk.blobs)) ++ map Remove (up_to b (numbers (S.view store.old).disk.blobs)))) (S.view store.old) result (S.view store.new) }
 {

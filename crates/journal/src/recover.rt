@@ -18,6 +18,7 @@ use crate::walk::recover_by_walking_lengths;
 use store::keys::Key;
 use store::store::Store;
 
+#[tactic(auto, using(crate::proofs::Recovering::lowest_is, crate::proofs::Taken::answers))]
 fn find_start<S: Store>(live: &Live<S>, config: Config, hint: Option<u64>) -> Result<u64, Fault>
     ensures { Starts (ruled config) hint (lowest (S.view live.now.store.now).disk.blobs) result }
 {
@@ -25,6 +26,7 @@ fn find_start<S: Store>(live: &Live<S>, config: Config, hint: Option<u64>) -> Re
 }
 
 // The ceiling may not be below the start, and each blob's first position is a number.
+#[tactic(auto, using(crate::proofs::Recovering::admit_low, crate::proofs::Recovering::admit_ok))]
 fn admit<S: Store>(live: &Live<S>, scope: Scope) -> Result<(), Fault>
     ensures { Admits (ruled scope.config) scope.start scope.ceiling (S.view live.now.store.now).disk.blobs result }
 {
@@ -49,6 +51,7 @@ fn find_scope<S: Store>(store: &S, config: Config, ceiling: Option<u64>) -> Resu
     Ok(scope)
 }
 
+#[tactic(auto, using(crate::proofs::Recovering::weigh_wrong))]
 fn measure<S: Store>(live: &Live<S>, scope: Scope, mark: Option<u64>) -> Result<Held, Fault>
     ensures { Settles (weigh (ruled scope.config) scope.start scope.ceiling (edge_at (ruled scope.config) scope.start scope.ceiling) mark (walk_all (ruled scope.config) scope.start (below (edge_at (ruled scope.config) scope.start scope.ceiling) (S.view live.now.store.now).disk.blobs))) result }
 {

@@ -37,6 +37,7 @@ impl Scope {
     }
 
     // The lowest blob that the ceiling sets aside.
+    #[tactic(auto, using(crate::proofs::Starting::ceil))]
     pub fn edge(self) -> Option<u64>
         ensures { edge_of result ≡ edge_at (ruled self.config) self.start self.ceiling }
     {
@@ -95,6 +96,7 @@ impl Scope {
     }
 
     // The watermark is weighed against the size that the walk found, and whether there are blobs beyond.
+    #[tactic(auto, using(crate::proofs::Starting::weigh_gap))]
     pub fn weigh(self, mark: Option<u64>, walked: (u64, bool)) -> Result<Held, Fault>
         ensures { Settles (weigh (ruled self.config) self.start self.ceiling (edge_at (ruled self.config) self.start self.ceiling) mark (stands walked.0 walked.1)) result }
     {

@@ -24,6 +24,7 @@ fn inspect<S: Store>(live: &Live<S>, scope: Scope, b: u64) -> Result<Option<u64>
 }
 
 // A suspect is passed over, refused or cut.
+#[tactic(auto, using(crate::proofs::Examining::cut_none, crate::proofs::Examining::stood_below, crate::proofs::Examining::stood_passed))]
 fn examine_suspect<S: Store>(store: &mut S, scope: Scope, floor: u64, b: u64) -> Result<(), Fault>
     requires { (S.view store.old).up ≡ true }
     ensures { (x : Blob) → find (S.view store.old).disk.blobs b ≡ Some x → Examined (ruled scope.config) scope.start scope.ceiling floor b x (S.view store.old) result (S.view store.new) }

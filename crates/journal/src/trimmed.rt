@@ -19,6 +19,7 @@ use record::record::Record;
 use std::marker::PhantomData;
 use store::store::Store;
 
+#[tactic(auto, using(crate::proofs::Taken::asks_then, crate::proofs::Taken::asks_early))]
 fn sync_and_persist<S: Store>(
     store: &mut S,
     config: Config,

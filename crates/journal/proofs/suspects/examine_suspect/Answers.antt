@@ -1,20 +1,12 @@
-use Rattle.std.proofs.Common.{◌≡◌, ℕ, ◌<◌, ◌≤◌, subst, arith}
+use Rattle.std.proofs.Common.{◌≡◌, ℕ, ◌≤◌, subst, arith}
 use Rattle.std.proofs.lemmas.Result.{err_from_is_err_and}
 use Rattle.store.specs.Disk.{Does, Refuses, Truncate}
 use Rattle.rules.specs.Rules.{blob_of}
 use Rattle.rules.specs.Open.{acknowledged, passes, valid}
 use Rattle.journal.specs.Configs.{ruled}
 use Rattle.journal.specs.Faults.{step_of_op}
-use Rattle.journal.proofs.Examining.{cut_none, cut_some, over_owed, stood_below, stood_passed, short, stood_cut, cut_stopped}
+use Rattle.journal.proofs.Examining.{cut_some, over_owed, stood_cut, cut_stopped}
 use Rattle.journal.proofs.suspects.examine_suspect.Goals as goal
-
-pub returns-then-b-blob_of : goal.returns-then-b-blob_of
-returns-then-b-blob_of g c x f =
-    let v = g.S.Store.view c.args.store.now in
-    let s = c.args.scope in
-    let rule = ruled s.config in
-    let l : c.args.b < blob_of rule c.args.floor = omega arith in
-    stood_below rule s.start s.ceiling c.args.floor c.args.b x v c.requires f l
 
 pub returns-in_err-owed : goal.returns-in_err-owed
 returns-in_err-owed g c =
@@ -25,26 +17,6 @@ returns-in_err-owed g c =
     let o = c.in_err-owed.ensures in
     let p = err_from_is_err_and c.from_residual.result c.from_residual.ensures.1 in
     rw (p.1, p.2, o.1) (λ x f. over_owed rule s.start s.ceiling c.args.floor c.args.b x v c.requires f l o.0)
-
-pub returns-in_default : goal.returns-in_default
-returns-in_default g c x f =
-    let v = g.S.Store.view c.args.store.now in
-    let s = c.args.scope in
-    let rule = ruled s.config in
-    let l : blob_of rule c.args.floor ≤ c.args.b = omega arith in
-    let q = cut_none (passes rule s.start s.ceiling (c.args.b, x)) (valid rule s.start s.ceiling (c.args.b, x)) c.in_ok-valid.field-0 (c.in_ok-valid.ensures x f) c.in_default.is in
-    stood_passed rule s.start s.ceiling c.args.floor c.args.b x v c.requires f l c.in_ok-owed.ensures.1 q
-
-pub returns-then-valid-owed : goal.returns-then-valid-owed
-returns-then-valid-owed g c x f =
-    let v = g.S.Store.view c.args.store.now in
-    let s = c.args.scope in
-    let rule = ruled s.config in
-    let l : blob_of rule c.args.floor ≤ c.args.b = omega arith in
-    let o = c.in_ok-owed.ensures in
-    let q = cut_some (passes rule s.start s.ceiling (c.args.b, x)) (valid rule s.start s.ceiling (c.args.b, x)) c.in-Some.valid c.in_ok-valid.field-0 (c.in_ok-valid.ensures x f) c.in-Some.is in
-    let m : valid rule s.start s.ceiling (c.args.b, x) < acknowledged rule s.start c.args.floor c.args.b = omega (arith, q.1, o.0) in
-    short rule s.start s.ceiling c.args.floor c.args.b x v c.requires f l o.1 q.0 m
 
 pub returns-in_err-truncate : goal.returns-in_err-truncate
 returns-in_err-truncate g c =

@@ -2,7 +2,6 @@ use Rattle.std.proofs.Common.{◌≡◌, ℕ, ◌+◌, List, ◌∷◌, map, Som
 use Rattle.std.proofs.lemmas.Result.{err_from_is_err_and}
 use Rattle.store.specs.Disk.{Disk, View, Sync, done, numbers, at_or_above, synced}
 use Rattle.store.specs.Laws.{Lawful}
-use Rattle.rules.specs.Rules.{MAX}
 use Rattle.rules.specs.Calls.{from}
 use Rattle.journal.specs.Steps.{Asks}
 use Rattle.journal.proofs.Taken.{turn_none, turn_done, turn_stop, answers}
@@ -69,7 +68,6 @@ returns-in_default-checked_add g c =
     let u = g.S.Store.view c.sync.new.store in
     let d = c.in_ok-sync.ensures in
     let n = left v u c.blobs.at b (g.met.S.Store.lawful c.blobs.store) d.2 (q.1 ∙ c.in-Some.is) in
-    let last : b ≡ MAX = omega (arith, c.in_default-checked_add.ensures) in
     let ms = from (b + 1) (numbers u.disk.blobs) in
-    let z = from_past u b (g.met.S.Store.lawful c.sync.new.store) last in
+    let z = from_past u b (g.met.S.Store.lawful c.sync.new.store) c.in_default-checked_add.ensures in
     c.blobs.invariant (Ok tt) u (turn_done Sync ns ms b v u u (Ok (tt {0})) n q.0 d (turn_none Sync ms u (tt {0}) z d.1))

@@ -1,7 +1,6 @@
 use Rattle.std.proofs.Common.{◌≡◌, ℕ, ◌+◌, ◌/◌, length, Some, Ok, Err, sym, ap, ◌∙◌, subst, arith}
 use Rattle.std.proofs.lemmas.Result.{err_from_is_err_and}
 use Rattle.store.specs.Disk.{at_or_above}
-use Rattle.rules.specs.Rules.{MAX}
 use Rattle.rules.specs.Open.{below, edge_at, stands, walk, Walked}
 use Rattle.journal.specs.Configs.{ruled}
 use Rattle.journal.specs.Recovery.{rest, Fills, Walks, is_more}
@@ -79,7 +78,6 @@ returns-in_default-checked_add g c =
     let q = c.in_ok-next.ensures ∙ ap (λ (e : ℕ). at_or_above c.walk.b (below e v.disk.blobs)) c.edge-edge.ensures in
     let n : c.in-Some.next ≡ c.walk.b = omega arith in
     let at = sym q ∙ (c.in-Some.is ∙ ap (λ (k : ℕ). Some k) n) in
-    let last : c.walk.b ≡ MAX = omega (arith, c.in_default-checked_add.ensures) in
     c.walk.invariant
     ∙ (turn_full rule s.start c.walk.size c.walk.b E v laws at c.in-Full.grown (λ x f. subst (λ (k : Filled). Fills rule s.start c.walk.size c.walk.b (length x.bytes / s.config.size) (Ok k)) c.in-Full.is (c.in_ok-grown.ensures x f))
-    ∙ walk_none rule s.start c.in-Full.grown (c.walk.b + 1) (rest (c.walk.b + 1) bs) (rest_none (c.walk.b + 1) bs (nothing_past v c.walk.b E laws last)))
+    ∙ walk_none rule s.start c.in-Full.grown (c.walk.b + 1) (rest (c.walk.b + 1) bs) (rest_none (c.walk.b + 1) bs (nothing_past v c.walk.b E laws c.in_default-checked_add.ensures)))

@@ -1,23 +1,41 @@
-use Rattle.std.proofs.Common.{◌<◌, sym, refl, ◌∙◌, arith}
-use Rattle.rules.specs.Rules.{MAX}
+use Rattle.std.proofs.Common.{ℕ, ◌+◌, leb, List, ◌++◌, refl, arith}
+use Rattle.std.proofs.lemmas.Bool.{le-leb, lt-leb}
+use Rattle.store.specs.Disk.{View, Op, numbers}
+use Rattle.rules.specs.Rules.{MAX, blob_of}
+use Rattle.rules.specs.Rules as rules
+use Rattle.rules.specs.Open.{Opened, no_edge}
+use Rattle.rules.specs.Calls.{has, open_if}
 use Rattle.journal.specs.Configs.{ruled}
-use Rattle.journal.specs.Logs.{held_of}
-use Rattle.journal.proofs.Appending.{append_refused, append_done, append_stopped}
+use Rattle.journal.specs.Trimming.{adding}
+use Rattle.journal.specs.declared.config.Config.{Config}
+use Rattle.journal.specs.declared.log.Held.{Held}
+use Rattle.journal.specs.declared.fault.Fault.TheVariants.{SizeOverflow}
+use Rattle.journal.proofs.Taken.{guard_refused, guard_done, guard_stopped}
 use Rattle.journal.proofs.trimmed.Trimmed+S+K.append.Goals as goal
 
-pub returns-then-end : goal.returns-then-end
-returns-then-end g c =
-    let l = c.args.self in
-    record { sized = λ sized. (refl, append_refused (ruled l.config) (held_of l.held) (g.S.Store.view l.store) (g.K.Record.encode c.args.item) (omega arith)); other = λ n. absurd (n (sym c.size.ensures ∙ c.if-size-self.false)) }
+abbrev writing : Config → ℕ → View → List ℕ → List Op
+writing c end v bytes = open_if (has (blob_of (ruled c) end) (numbers v.disk.blobs)) (blob_of (ruled c) end) ++ adding (ruled c) end bytes
 
-pub returns-in-Ok : goal.returns-in-Ok
-returns-in-Ok g c =
-    let l = c.args.self in
-    let m : l.held.end < MAX = omega arith in
-    record { sized = λ sized. (append_done (ruled l.config) (held_of l.held) (g.S.Store.view l.store) (g.K.Record.encode c.args.item) (g.S.Store.view c.write.new.store) m c.in-Ok.ensures, refl); other = λ n. absurd (n (sym c.size.ensures ∙ c.if-size-self.false)) }
+abbrev grown : Held → Opened
+grown h = record { start = h.start; end = h.end + 1; mark = h.mark; bounded = h.bounded; edge = no_edge }
 
-pub returns-in-Err : goal.returns-in-Err
-returns-in-Err g c =
+pub returns-then-end-clause-sized : goal.returns-then-end-clause-sized
+returns-then-end-clause-sized g c sized =
     let l = c.args.self in
-    let m : l.held.end < MAX = omega arith in
-    record { sized = λ sized. rw (c.into.ensures, c.end.ensures) (append_stopped (ruled l.config) (held_of l.held) (g.S.Store.view l.store) (g.K.Record.encode c.args.item) (g.S.Store.view c.write.new.store) c.in-Err.e m c.in-Err.ensures); other = λ n. absurd (n (sym c.size.ensures ∙ c.if-size-self.false)) }
+    let v = g.S.Store.view l.store in
+    (refl, guard_refused (leb MAX l.held.end) rules.SizeOverflow (writing l.config l.held.end v (g.K.Record.encode c.args.item)) (grown l.held) v SizeOverflow refl (le-leb MAX l.held.end (omega arith)))
+
+pub returns-in-Ok-clause-sized : goal.returns-in-Ok-clause-sized
+returns-in-Ok-clause-sized g c sized =
+    let l = c.args.self in
+    let v = g.S.Store.view l.store in
+    let w = g.S.Store.view c.write.new.store in
+    (guard_done (leb MAX l.held.end) rules.SizeOverflow (writing l.config l.held.end v (g.K.Record.encode c.args.item)) (grown l.held) v w (lt-leb MAX l.held.end (omega arith)) c.in-Ok.ensures, refl)
+
+pub returns-in-Err-clause-sized : goal.returns-in-Err-clause-sized
+returns-in-Err-clause-sized g c sized =
+    let l = c.args.self in
+    let v = g.S.Store.view l.store in
+    let w = g.S.Store.view c.write.new.store in
+    rw (c.into.ensures, c.end.ensures)
+    (guard_stopped (leb MAX l.held.end) rules.SizeOverflow (writing l.config l.held.end v (g.K.Record.encode c.args.item)) (grown l.held) v w c.in-Err.e (lt-leb MAX l.held.end (omega arith)) c.in-Err.ensures)
