@@ -1,5 +1,5 @@
 // One record is appended.
-ghost use Rattle.std.specs.Prelude.{◌≡◌, ◌+◌, ◌<◌, [], ◌∷◌, ◌++◌, length, if◌then◌else◌};
+ghost use Rattle.std.specs.Prelude.{◌≡◌, ◌+◌, ◌<◌, [], ◌∷◌, ◌++◌, if◌then◌else◌};
 ghost use Rattle.store.specs.Disk.{Sync, numbers};
 ghost use Rattle.rules.specs.Rules.{MAX, aligned, blob_of};
 ghost use Rattle.rules.specs.Calls.{has, open_if};

@@ -9,7 +9,7 @@ use crate::fault::{Fault, StoreFault};
 use std::marker::PhantomData;
 
 // Positions from start to end, of which those below mark are acknowledged. Blobs from edge on are set aside.
-// Bounded says that a ceiling was given: it stays when nothing is set aside any more, so it is no second name of edge.
+// A log that was opened under a ceiling stays bounded when none is set aside any more: edge does not tell it.
 #[derive(Clone, Copy)]
 pub struct Held {
     pub(crate) start: u64,
@@ -20,7 +20,7 @@ pub struct Held {
 }
 
 impl Held {
-    // No positions; the first to come is given.
+    // No positions, and the one that comes first.
     pub(crate) fn empty_at(position: u64) -> Held
         ensures { held_of result ≡ empty_at position }
     {
@@ -34,13 +34,13 @@ impl Held {
     }
 }
 
-// The state of a log as it was found: there may be more in its store than it has positions for.
+// The state of a log as it was found: its store may have more than the log has positions for.
 pub struct Found;
 
 // The state of a log with nothing above its end.
 pub struct Clean;
 
-// Records of the kind K in a store. What may be called is a matter of the state P.
+// Records of the kind K in a store. The state P says what may be called.
 pub struct Log<P, S, K> {
     pub(crate) store: S,
     pub(crate) config: Config,
@@ -106,8 +106,8 @@ impl<P, S, K> Log<P, S, K> {
         store
     }
 
-    // What its store refused ends it.
-    pub(crate) fn end(self, e: StoreFault) -> Lost<S>
+    // A log ends by what its store refused.
+    pub(crate) fn ended_by(self, e: StoreFault) -> Lost<S>
         ensures { result ≡ record { store = self.store; fault = InStore e } }
     {
         Lost {

@@ -47,11 +47,12 @@ impl<S: Store, K> Trimmed<S, K> {
                 };
                 Ok(self)
             }
-            Err(e) => Err(self.end(e)),
+            Err(e) => Err(self.ended_by(e)),
         }
     }
 
-    // Blobs below the one of a position go; answers whether any position went.
+    // Blobs below the one of a position go. Beside the log, whether any position went: an enum would only have to be
+    // taken apart for the log again.
     pub fn prune(mut self, position: u64) -> Result<(Trimmed<S, K>, bool), Lost<S>>
         ensures { Pruned S.view self position result }
     {
@@ -69,7 +70,7 @@ impl<S: Store, K> Trimmed<S, K> {
                 };
                 Ok((self, true))
             }
-            Err(e) => Err(self.end(e)),
+            Err(e) => Err(self.ended_by(e)),
         }
     }
 }
@@ -101,7 +102,7 @@ impl<S: Store, K: Record> Trimmed<S, K> {
                 };
                 Ok(self)
             }
-            Err(e) => Err(self.end(e).into()),
+            Err(e) => Err(self.ended_by(e).into()),
         }
     }
 }

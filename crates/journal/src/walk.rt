@@ -36,7 +36,7 @@ fn fill<S: Store>(live: &Live<S>, scope: Scope, size: u64, b: u64) -> Result<Fil
 }
 
 // From a blob on, up to the first that is missing or short: the size, and whether there are blobs beyond.
-// It is the original's loop, which yields its pair by break.
+// The pair and the loop that yields it by break are the original's.
 fn walk_from<S: Store>(live: &Live<S>, scope: Scope, lowest: u64) -> Result<(u64, bool), Fault>
     ensures { Walks (walk (ruled scope.config) scope.start scope.start lowest (rest lowest (below (edge_at (ruled scope.config) scope.start scope.ceiling) (S.view live.now.store.now).disk.blobs))) result }
 {

@@ -23,5 +23,5 @@ pub returns-in-Err : goal.returns-in-Err
 returns-in-Err g c =
     let v = g.S.Store.view c.args.self.store in
     let t = c.args.target in
-    rw (c.into.ensures, c.end.ensures)
+    rw (c.into.ensures, c.ended_by.ensures)
     (guard_stopped (leb MAX t) rules.SizeOverflow (staging v.disk.present t) (tt {0}) v (g.S.Store.view c.stage_clear.new.store) c.in-Err.e (lt-leb MAX t (omega arith)) c.in-Err.ensures)

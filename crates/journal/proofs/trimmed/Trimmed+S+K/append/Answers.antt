@@ -37,5 +37,5 @@ returns-in-Err-clause-sized g c sized =
     let l = c.args.self in
     let v = g.S.Store.view l.store in
     let w = g.S.Store.view c.write.new.store in
-    rw (c.into.ensures, c.end.ensures)
+    rw (c.into.ensures, c.ended_by.ensures)
     (guard_stopped (leb MAX l.held.end) rules.SizeOverflow (writing l.config l.held.end v (g.K.Record.encode c.args.item)) (grown l.held) v w c.in-Err.e (lt-leb MAX l.held.end (omega arith)) c.in-Err.ensures)

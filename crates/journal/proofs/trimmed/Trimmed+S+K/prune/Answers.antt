@@ -21,4 +21,4 @@ returns-in-Err g c =
     let rule = ruled l.config in
     let b = c.blob_of-b.result in
     let e : b ≡ blob_of rule (min c.args.position l.held.end) = c.blob_of-b.ensures ∙ ap (blob_of rule) c.min.ensures in
-    rw c.end.ensures (prune_stopped rule (held_of l.held) v c.args.position b e (g.S.Store.view c.prune_to.new.store) c.in-Err.e c.if-first-self.false c.in-Err.ensures)
+    rw c.ended_by.ensures (prune_stopped rule (held_of l.held) v c.args.position b e (g.S.Store.view c.prune_to.new.store) c.in-Err.e c.if-first-self.false c.in-Err.ensures)

@@ -22,4 +22,4 @@ returns-in-Err g c =
     let h = c.args.self.held in
     let o : Opened = record { start = h.start; end = h.end; mark = h.end; bounded = h.bounded; edge = no_edge } in
     let os = map Sync (numbers v.disk.blobs) ++ persist (ruled c.args.self.config) h.start h.end in
-    rw c.end.ensures (told_stops (asks_stopped (answer o) os v w c.in-Err.e c.in-Err.ensures))
+    rw c.ended_by.ensures (told_stops (asks_stopped (answer o) os v w c.in-Err.e c.in-Err.ensures))
