@@ -16,7 +16,7 @@ pub struct Live<'a, S: Store> {
     ghost up: { (S.view store.now).up ≡ true },
 }
 
-impl<'a, S: Store> Live<'a, S> {
+impl<S: Store> Live<'_, S> {
     // The lowest blob from b on that is not set aside.
     pub fn next_below(&self, b: u64, edge: Option<u64>) -> Result<Option<u64>, StoreFault>
         ensures { Gives (at_or_above b (below (edge_of edge) (S.view self.now.store.now).disk.blobs)) result }

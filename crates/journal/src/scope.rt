@@ -1,4 +1,4 @@
-// The log that is being opened, as its store's numbers tell it.
+// What a log is opened by, and what follows from it.
 ghost use Rattle.std.specs.Prelude.{◌≡◌, ◌/◌, min, ◌&&◌, is_some, ◌==◌, nat_le};
 ghost use Rattle.std.specs.Option.{unwrap_or};
 ghost use Rattle.rules.specs.Open.{acknowledged, edge_at, needed, or_max, stands, weigh};

@@ -11,7 +11,7 @@ use crate::scope::Scope;
 use crate::steps;
 use store::store::Store;
 
-// The size with a blob's records counted on: there may be more in the next blob, or there are none.
+// The size with a blob's records counted on: a full blob's, or one's that ends the walk.
 pub enum Filled {
     Full(u64),
     Short(u64),
