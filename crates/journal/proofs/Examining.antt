@@ -1,6 +1,7 @@
 -- What becomes of a suspect.
-use Rattle.std.proofs.Common.{◌≡◌, ℕ, ◌<◌, ◌≤◌, true, false, eqb, [], ◌∷◌, Some, Option, sym, refl, ap, ◌∙◌, subst, inl, inr}
+use Rattle.std.proofs.Common.{◌≡◌, ℕ, ◌<◌, ◌≤◌, Bool, true, false, not, eqb, [], ◌∷◌, Some, None, Option, sym, refl, ap, ◌∙◌, subst, inl, inr}
 use Rattle.std.proofs.lemmas.Bool.{lt-ltb, le-ltb, cases_Bool}
+use Rattle.std.specs.Bool.{then_some}
 use Rattle.store.specs.Disk.{Blob, Blobs, Disk, View, find, change, cut_to, Does, Refuses, Truncate}
 use Rattle.rules.specs.Rules.{Config, MAX, Plan, blob_of, call, refuse, refused, stopped, Follows, Wrote}
 use Rattle.rules.specs.Rules.{OffsetOverflow as Over}
@@ -11,6 +12,7 @@ use Rattle.journal.specs.declared.fault.Corrupt.TheVariants.{Acknowledged}
 use Rattle.journal.specs.declared.fault.Fault.TheVariants.{OffsetOverflow, Corruption, Store}
 use Rattle.journal.specs.Faults.{step_of_op}
 use Rattle.journal.specs.Recovery.{Ends, Stood}
+use Rattle.journal.proofs.Taken.{impossible}
 
 -- one blob of a list, changed to what it is made of it
 pub change_to : (f : Blob → Blob) (b : ℕ) (xs : Blobs) (x : Blob) → find xs b ≡ Some x → change f b xs ≡ change (λ _. f x) b xs
@@ -23,6 +25,15 @@ change_to f b (y ∷ ys) x e = elim (cases_Bool (eqb y.0 b)) [
 pub change_same : (b : ℕ) (xs : Blobs) → change (λ x. x) b xs ≡ xs
 change_same b [] = refl
 change_same b (y ∷ ys) = elim (cases_Bool (eqb y.0 b)) [ inl t ↦ simp t | inr t ↦ simp t (ap (λ (zs : Blobs). y ∷ zs) (change_same b ys)) ]
+
+-- whether a suspect passes, by where it is cut
+pub cut_none : (p : Bool) (n : ℕ) (o : Option ℕ) → o ≡ then_some (not p) n → o ≡ None → p ≡ true
+cut_none true n o e h = refl
+cut_none false n o e h = impossible (let z : ◌≡◌ {A = ℕ} 0 1 = cc in z)
+
+pub cut_some : (p : Bool) (n m : ℕ) (o : Option ℕ) → o ≡ then_some (not p) n → o ≡ Some m → (p ≡ false) × (m ≡ n)
+cut_some true n m o e h = impossible (let z : ◌≡◌ {A = ℕ} 0 1 = cc in z)
+cut_some false n m o e h = (refl, cc)
 
 -- the rule's five ways
 module _ (c : Config) (s : ℕ) (ceiling : Option ℕ) (floor b : ℕ) (x : Blob) (v : View) (up : v.up ≡ true) (found : find v.disk.blobs b ≡ Some x) where

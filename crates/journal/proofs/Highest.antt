@@ -21,6 +21,9 @@ pub below_zero : (xs : Blobs) → below 0 xs ≡ []
 below_zero [] = refl
 below_zero (x ∷ xs) = let u = le-ltb x.0 0 (omega arith) in simp u
 
+pub below_none : (e : ℕ) (xs : Blobs) → (1 ≤ e → ⊥) → highest (below e xs) ≡ None
+below_none e xs n = let z : e ≡ 0 = omega (arith, n) in ap (λ (k : ℕ). highest (below k xs)) z ∙ ap highest (below_zero xs)
+
 pub below_all : (e : ℕ) (xs : Blobs) → Below e (numbers xs) → below e xs ≡ xs
 below_all e [] h = refl
 below_all e (x ∷ xs) h = let t = lt-ltb x.0 e (h 0 (omega arith)) in simp t (ap (λ (zs : Blobs). x ∷ zs) (below_all e xs (λ k l. h (suc k) (omega arith))))

@@ -1,12 +1,10 @@
 pub mod Taken
 pub mod Listing
 pub mod Readings
-pub mod Staging
 pub mod Starting
 pub mod Walking
 pub mod Examining
 pub mod Highest
 pub mod Suspecting
 pub mod Recovering
-pub mod Appending
 pub mod Pruning

@@ -1,28 +1,14 @@
 -- Which blobs are listed, and what is left of the list after each call.
-use Rattle.std.proofs.Common.{◌≡◌, ℕ, ◌+◌, ◌<◌, ◌≤◌, false, eqb, List, [], ◌∷◌, Some, None, sym, refl, ap, ◌∙◌, inl, inr, arith}
-use Rattle.std.proofs.lemmas.Bool.{lt-ltb, le-ltb, le-leb, lt-leb, eq-eqb, ne_eqb, eqb-false, cases_lt, cases_Bool}
-use Rattle.store.specs.Disk.{Blob, Blobs, View, numbers, at_or_above, change, without}
+use Rattle.std.proofs.Common.{◌≡◌, ℕ, ◌+◌, ◌<◌, ◌≤◌, false, eqb, List, [], ◌∷◌, Some, None, Option, sym, refl, ap, ◌∙◌, inl, inr, arith}
+use Rattle.std.proofs.lemmas.Bool.{lt-ltb, le-ltb, le-leb, lt-leb, ne_eqb, eqb-false, cases_lt, cases_Bool}
+use Rattle.std.specs.Option.{option_eq}
+use Rattle.store.specs.Disk.{Blob, Blobs, View, numbers, at_or_above, change}
 use Rattle.store.specs.Laws.{Lawful}
 use Rattle.store.proofs.Places.{above_none}
 use Rattle.store.proofs.Places.{length_numbers as count_numbers}
-use Rattle.rules.specs.Rules.{MAX}
 use Rattle.rules.specs.Calls.{from, has}
 use Rattle.journal.proofs.Taken.{impossible}
 use Rattle.journal.proofs.Walking.{Up, above_le}
-
--- the lowest blob
-pub lowest_none : (xs : Blobs) → at_or_above 0 xs ≡ None → numbers xs ≡ []
-lowest_none [] e = refl
-lowest_none (x ∷ xs) e = let t = le-ltb x.0 0 (omega arith) in let q : Some x.0 ≡ None = simp t at e in impossible (let z : ◌≡◌ {A = ℕ} 0 1 = cc in z)
-
-pub lowest_first : (xs : Blobs) (b : ℕ) → at_or_above 0 xs ≡ Some b → numbers xs ≡ b ∷ numbers (without b xs)
-lowest_first [] b e = impossible (let z : ◌≡◌ {A = ℕ} 0 1 = cc in z)
-lowest_first (x ∷ xs) b e =
-    let t = le-ltb x.0 0 (omega arith) in
-    let q : Some x.0 ≡ Some b = simp t at e in
-    let p : x.0 ≡ b = cc in
-    let s = eq-eqb x.0 b p in
-    simp s (ap (λ (n : ℕ). n ∷ numbers xs) p)
 
 up_less : (a b : ℕ) (xs : Blobs) → a ≤ b → Up b xs → Up a xs
 up_less a b [] l u = tt
@@ -69,10 +55,10 @@ pub numbers_change : (f : Blob → Blob) (b : ℕ) (xs : Blobs) → numbers (cha
 numbers_change f b [] = refl
 numbers_change f b (x ∷ xs) = elim (cases_Bool (eqb x.0 b)) [ inl t ↦ simp t | inr t ↦ simp t (ap (λ (ms : List ℕ). x.0 ∷ ms) (numbers_change f b xs)) ]
 
-pub from_past : (v : View) (b : ℕ) → Lawful v → b ≡ MAX → from (b + 1) (numbers v.disk.blobs) ≡ []
+pub from_past : (v : View) (b : ℕ) → Lawful v → (b + 1 < 18446744073709551616 → ⊥) → from (b + 1) (numbers v.disk.blobs) ≡ []
 from_past v b laws h =
     let n = count_numbers v.disk.blobs in
-    from_none (b + 1) v.disk.blobs (above_none (b + 1) v.disk.blobs (λ k l. let q = laws.fits k (omega arith) in omega arith))
+    from_none (b + 1) v.disk.blobs (above_none (b + 1) v.disk.blobs (λ k l. let q = laws.fits k (omega arith) in omega (arith, h)))
 
 -- whether a number is listed
 pub has_above : (b : ℕ) (xs : Blobs) → Up (b + 1) xs → has b (numbers xs) ≡ false
@@ -104,3 +90,7 @@ has_some lo b n (x ∷ xs) u e = elim (cases_lt x.0 b) [
             simp d (has_above b xs (up_less (b + 1) (x.0 + 1) xs (omega arith) u.1) ∙ (sym d ∙ k))
       ]
 ]
+
+pub has_is : (b : ℕ) (xs : Blobs) (o : Option ℕ) → Up 0 xs → at_or_above b xs ≡ o → has b (numbers xs) ≡ option_eq eqb o (Some b)
+has_is b xs None u e = has_none b xs e
+has_is b xs (Some n) u e = has_some 0 b n xs u e

@@ -1,35 +1,47 @@
 -- Blobs below a number.
-use Rattle.std.proofs.Common.{◌≡◌, ℕ, ◌+◌, ◌*◌, ◌<◌, ◌≤◌, min, Bool, true, false, cond, eqb, ltb, leb, List, [], ◌∷◌, ◌++◌, map, Some, None, Ok, Err, Result, sym, refl, ap, ◌∙◌, subst, inl, inr, arith}
-use Rattle.std.proofs.lemmas.Bool.{lt-ltb, le-ltb, le-leb, lt-leb, cases_Bool}
+use Rattle.std.proofs.Common.{◌≡◌, ℕ, suc, ◌+◌, ◌*◌, ◌<◌, ◌≤◌, min, Bool, true, false, cond, eqb, ltb, leb, List, [], ◌∷◌, ◌++◌, map, Some, None, Ok, Err, Result, sym, refl, ap, ◌∙◌, subst, inl, inr, arith}
+use Rattle.std.proofs.lemmas.Bool.{lt-ltb, le-ltb, lt-leb, eq-eqb, cases_lt, cases_Bool}
 use Rattle.store.specs.Disk.{Blobs, Disk, View, Op, Open, Remove, Sync, numbers, insert, without, at_or_above, synced}
 use Rattle.rules.specs.Rules.{Config, Plan, answer, calls, answered, stopped, Follows, blob_of}
-use Rattle.rules.specs.Open.{Opened, no_edge}
+use Rattle.store.specs.Laws.{Below}
+use Rattle.rules.specs.Open.{Opened, no_edge, below}
 use Rattle.rules.specs.Calls.{up_to, trimmed_prune_rule}
 use Rattle.journal.specs.declared.fault.Fault.TheVariants.{Store}
 use Rattle.journal.specs.Logs.{Stops}
 use Rattle.journal.specs.declared.fault.StoreFault.{StoreFault}
 use Rattle.journal.specs.Steps.{AllDone, StopsIn, TookAll, Asks}
-use Rattle.journal.proofs.Taken.{up_and_down, follows_done, follows_stop, told_stops}
+use Rattle.journal.proofs.Taken.{impossible, up_and_down, follows_done, follows_stop, told_stops}
 use Rattle.journal.proofs.Walking.{Up}
-use Rattle.journal.proofs.Listing.{lowest_none, lowest_first, numbers_change}
-
-pub up_to_empty : (b : ℕ) (xs : Blobs) → at_or_above 0 xs ≡ None → up_to b (numbers xs) ≡ []
-up_to_empty b xs e = ap (up_to b) (lowest_none xs e)
+use Rattle.journal.proofs.Listing.{numbers_change}
 
 above : (b lo : ℕ) (xs : Blobs) → b ≤ lo → Up lo xs → up_to b (numbers xs) ≡ []
 above b lo [] l u = refl
 above b lo (x ∷ xs) l u = let k = u.0 in let t = le-ltb x.0 b (omega arith) in simp t (above b (x.0 + 1) xs (omega arith) u.1)
 
-pub up_to_high : (b n : ℕ) (xs : Blobs) → Up 0 xs → b ≤ n → at_or_above 0 xs ≡ Some n → up_to b (numbers xs) ≡ []
-up_to_high b n [] u l e = refl
-up_to_high b n (x ∷ xs) u l e =
-    let t = le-ltb x.0 0 (omega arith) in
-    let q : Some x.0 ≡ Some n = simp t at e in
-    let p : x.0 ≡ n = cc in
-    above b x.0 (x ∷ xs) (omega arith) (let r : x.0 ≤ x.0 = omega arith in r, u.1)
+-- the lowest below an edge is the first of those up to it
+pub up_to_none : (e : ℕ) (xs : Blobs) → Up 0 xs → at_or_above 0 (below e xs) ≡ None → up_to e (numbers xs) ≡ []
+up_to_none e [] u q = refl
+up_to_none e (x ∷ xs) u q = elim (cases_lt x.0 e) [
+  | inl l ↦ let t = lt-ltb x.0 e l in let z = le-ltb x.0 0 (omega arith) in let p : Some x.0 ≡ None = simp (t, z) at q in impossible (let y : ◌≡◌ {A = ℕ} 0 1 = cc in y)
+  | inr l ↦ above e x.0 (x ∷ xs) l (let r : x.0 ≤ x.0 = omega arith in r, u.1)
+]
 
-pub up_to_first : (b n : ℕ) (xs : Blobs) → n < b → at_or_above 0 xs ≡ Some n → up_to b (numbers xs) ≡ n ∷ up_to b (numbers (without n xs))
-up_to_first b n xs l e = let t = lt-ltb n b l in ap (up_to b) (lowest_first xs n e) ∙ simp t
+pub up_to_next : (e n : ℕ) (xs : Blobs) → at_or_above 0 (below e xs) ≡ Some n → up_to e (numbers xs) ≡ n ∷ up_to e (numbers (without n xs))
+up_to_next e n [] q = impossible (let y : ◌≡◌ {A = ℕ} 0 1 = cc in y)
+up_to_next e n (x ∷ xs) q = elim (cases_lt x.0 e) [
+  | inl l ↦ let t = lt-ltb x.0 e l in
+      let z = le-ltb x.0 0 (omega arith) in
+      let p : Some x.0 ≡ Some n = simp (t, z) at q in
+      let r : x.0 ≡ n = cc in
+      let s = eq-eqb x.0 n r in
+      simp (t, s) (ap (λ (k : ℕ). k ∷ up_to e (numbers xs)) r)
+  | inr l ↦ let t = le-ltb x.0 e l in let p : None ≡ Some n = simp t at q in impossible (let y : ◌≡◌ {A = ℕ} 0 1 = cc in y)
+]
+
+-- an edge above every number
+pub up_to_all : (e : ℕ) (ns : List ℕ) → Below e ns → up_to e ns ≡ ns
+up_to_all e [] h = refl
+up_to_all e (n ∷ ns) h = let t = lt-ltb n e (h 0 (omega arith)) in simp t (ap (λ (ms : List ℕ). n ∷ ms) (up_to_all e ns (λ k l. h (suc k) (omega arith))))
 
 pub up_to_insert : (b : ℕ) (xs : Blobs) → up_to b (numbers (insert b xs)) ≡ up_to b (numbers xs)
 up_to_insert b [] = let t = le-ltb b b (omega arith) in simp t
@@ -82,9 +94,3 @@ module _ (c : Config) (o : Opened) (v : View) (p b : ℕ) (eb : b ≡ blob_of c 
   prune_stopped w e l h =
       let q = told_stops (follows_stop (answer (pruned_to, true)) pruning v w e h) in
       (q.0, q.1, q.2, subst (λ (k : Plan (Opened × Bool)). Follows k v (stopped q.0 q.1) w) (sym (rule_is l)) q.3)
-
-  pub prune_kept : b * c.n ≤ o.start → Follows (trimmed_prune_rule c v.disk o p) v (answered (o, false)) v
-  prune_kept l =
-      let t = le-leb (blob_of c (min p o.end) * c.n) o.start (omega (arith, ap (λ (m : ℕ). m * c.n) eb)) in
-      let e : trimmed_prune_rule c v.disk o p ≡ answer (o, false) = simp t in
-      subst (λ (q : Plan (Opened × Bool)). Follows q v (answered (o, false)) v) (sym e) (refl, refl)

@@ -1,11 +1,19 @@
 -- The start, the edge and the watermark.
-use Rattle.std.proofs.Common.{◌≡◌, ℕ, ◌+◌, ◌-◌, ◌*◌, ◌/◌, ◌<◌, min, Bool, true, false, Some, None, Ok, Err, Option, sym, refl, ap, ◌∙◌, subst, zero-mul, arith}
-use native.Mathlib.Nat.{add-div_right, div-eq_of_lt}
-use Rattle.std.proofs.lemmas.Bool.{lt-ltb, le-ltb, lt-leb, ne_eqb}
-use Rattle.rules.specs.Rules.{Config, MAX, Plan, refuse, refused, blob_of, aligned, Corruption}
+use Rattle.std.proofs.Common.{◌≡◌, ℕ, ◌+◌, ◌-◌, ◌*◌, ◌/◌, ◌%◌, ◌<◌, ◌≤◌, min, Bool, true, false, Some, None, Ok, Err, Option, sym, refl, subst, arith}
+use Rattle.std.proofs.Math.Nat.{div-eq_of_lt-le, add-mul, one-mul}
+use Rattle.std.proofs.lemmas.Grind.{div_ceil_times}
+use Rattle.std.specs.Cmp.{ranks}
+use Rattle.std.specs.Ordering.{MatchOrdering, nat_cmp}
+use Rattle.std.specs.declared.cmp.Ordering.{Ordering}
+use Rattle.std.specs.declared.cmp.Ordering.TheVariants.{Greater}
+use Rattle.std.proofs.lemmas.Bool.{lt-ltb, le-ltb, ne_eqb}
+use Rattle.rules.specs.Rules.{Config, MAX, Plan, refused, blob_of, aligned}
+use Rattle.rules.specs.Rules.{Corruption as Corrupted}
 use Rattle.rules.specs.Rules.{OffsetOverflow as Over}
-use Rattle.rules.specs.Open.{Opened, start_at, edge_at, or_max, round_up, weigh, stands}
+use Rattle.rules.specs.Open.{Opened, start_at, or_max, weigh, stands}
+use Rattle.journal.specs.declared.fault.Corrupt.TheVariants.{HintNewer, HintWithoutBlobs, Watermark, Gap}
 use Rattle.journal.specs.declared.fault.Fault.{Fault}
+use Rattle.journal.specs.declared.fault.Fault.TheVariants.{Corruption}
 use Rattle.journal.specs.Faults.{Means}
 use Rattle.journal.specs.Recovery.{First, Tells}
 
@@ -16,44 +24,30 @@ start_over c None (Some lo) e k f =
 start_over c (Some h) (Some lo) e k f =
     let t = lt-ltb MAX (lo * c.n) f.1 in (Over, subst (λ (y : Fault). Means {A = Opened} y (refused Over)) (sym f.0) refl, simp t)
 
-pub start_bare : (c : Config) (p q : Option ℕ) (h : ℕ) (k : ℕ → Plan Opened) → p ≡ Some h → q ≡ None → aligned c h ≡ false → start_at c p q k ≡ refuse (Corruption 2)
-start_bare c p q h k ep eq a = simp (ep, eq, a)
+pub start_bare : (c : Config) (p q : Option ℕ) (h : ℕ) (k : ℕ → Plan Opened) → p ≡ Some h → q ≡ None → aligned c h ≡ false → Tells (Corruption HintWithoutBlobs) (start_at c p q k)
+start_bare c p q h k ep eq a = (Corrupted 2, refl, simp (ep, eq, a))
 
-pub start_newer : (c : Config) (p q : Option ℕ) (h lo f : ℕ) (k : ℕ → Plan Opened) → p ≡ Some h → q ≡ Some lo → aligned c h ≡ false → First c (Some lo) (Ok f) → lo < blob_of c h
-    → start_at c p q k ≡ refuse (Corruption 1)
-start_newer c p q h lo f k ep eq a o l =
-    let t : _ ≡ false = le-ltb MAX (lo * c.n) (omega (arith, o.0, o.1)) in
+pub start_newer : (c : Config) (p q : Option ℕ) (h lo f : ℕ) (k : ℕ → Plan Opened) → p ≡ Some h → q ≡ Some lo → aligned c h ≡ false → First c q (Ok f) → Greater ≡ nat_cmp (blob_of c h) lo
+    → Tells (Corruption HintNewer) (start_at c p q k)
+start_newer c p q h lo f k ep eq a o g =
+    let first = subst (λ (x : Option ℕ). First c x (Ok f)) eq o in
+    let l : lo < blob_of c h = subst (λ (r : Ordering). MatchOrdering r (blob_of c h < lo) (blob_of c h ≡ lo) (lo < blob_of c h)) (sym g) (ranks (blob_of c h) lo) in
+    let t : _ ≡ false = le-ltb MAX (lo * c.n) (omega (arith, first.0, first.1)) in
     let u = le-ltb (blob_of c h) lo (omega arith) in
     let w = ne_eqb (blob_of c h) lo (λ e. omega arith) in
-    simp (ep, eq, t, a, u, w)
+    (Corrupted 1, refl, simp (ep, eq, t, a, u, w))
 
-pub edge_some : (c : Config) (s : ℕ) (o : Option ℕ) (k : ℕ) → 0 < c.n → o ≡ Some k → s < k → (k - 1) / c.n + 1 ≡ edge_at c s o
-edge_some c s o k np e l =
-    let t = lt-leb k s l in
-    let r : k + (c.n - 1) ≡ (k - 1) + c.n = omega arith in
-    let d : ((k - 1) + c.n) / c.n ≡ (k - 1) / c.n + 1 = add-div_right (k - 1) np in
-    simp (e, t) (omega (arith, d, ap (λ (m : ℕ). m / c.n) r))
+-- rounded up, as std does and as the rules do
+pub ceil : (n p : ℕ) → 0 < p → n / p + min 1 (n % p) ≡ (n + (p - 1)) / p
+ceil n p pp =
+    let q : ℕ = n / p + min 1 (n % p) in
+    let t = div_ceil_times n p pp in
+    let low : q * p ≤ n + (p - 1) = omega (arith, t.1) in
+    let high : n + (p - 1) < (q + 1) * p = rw (add-mul q 1 p) (omega (arith, t.0, one-mul p)) in
+    sym (div-eq_of_lt-le p low high)
 
-pub weigh_gap : (c : Config) (s e size : ℕ) (ceiling m : Option ℕ) (gap : Bool) → m ≡ None → gap ≡ true → weigh c s ceiling e m (stands size gap) ≡ refuse (Corruption 6)
-weigh_gap c s e size ceiling m gap p q = simp (p, q)
+pub weigh_gap : (c : Config) (s e size : ℕ) (ceiling m : Option ℕ) (gap : Bool) → m ≡ None → gap ≡ true → Tells (Corruption Gap) (weigh c s ceiling e m (stands size gap))
+weigh_gap c s e size ceiling m gap p q = (Corrupted 6, refl, simp (p, q))
 
-pub weigh_low : (c : Config) (s e size k : ℕ) (ceiling m : Option ℕ) (gap : Bool) → m ≡ Some k → size < min k (or_max ceiling) → weigh c s ceiling e m (stands size gap) ≡ refuse (Corruption 5)
-weigh_low c s e size k ceiling m gap p l = let t = lt-ltb size (min k (or_max ceiling)) l in simp (p, t)
-
--- (n - 1) / p + 1 is n / p, rounded up
-pub ceil : (n p : ℕ) → 0 < p → 0 < n → (n - 1) / p + 1 ≡ (n + (p - 1)) / p
-ceil n p pp np =
-    let r : n + (p - 1) ≡ (n - 1) + p = omega arith in
-    let d : ((n - 1) + p) / p ≡ (n - 1) / p + 1 = add-div_right (n - 1) pp in
-    sym d ∙ ap (λ (m : ℕ). m / p) (sym r)
-
-pub round_none : (page n : ℕ) → 0 < page → n ≡ 0 → 0 ≡ round_up page n
-round_none page n pp e =
-    let d : (n + (page - 1)) / page ≡ 0 = div-eq_of_lt (let l : n + (page - 1) < page = omega arith in l) in
-    let m : (n + (page - 1)) / page * page ≡ 0 = ap (λ (k : ℕ). k * page) d ∙ zero-mul page in
-    omega (arith, m)
-
-pub round_some : (page n r : ℕ) → 0 < page → 0 < n → r ≡ min (((n - 1) / page + 1) * page) MAX → r ≡ round_up page n
-round_some page n r pp np e =
-    let d = ap (λ (k : ℕ). k * page) (ceil n page pp np) in
-    omega (arith, d)
+pub weigh_low : (c : Config) (s e size k low : ℕ) (ceiling m : Option ℕ) (gap : Bool) → m ≡ Some k → low ≡ min k (or_max ceiling) → size < low → Tells (Corruption Watermark) (weigh c s ceiling e m (stands size gap))
+weigh_low c s e size k low ceiling m gap p q l = let t = lt-ltb size (min k (or_max ceiling)) (omega arith) in (Corrupted 5, refl, simp (p, t))

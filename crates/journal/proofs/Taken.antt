@@ -2,13 +2,16 @@
 use Rattle.std.proofs.Common.{◌≡◌, ℕ, Bool, true, false, cond, List, [], ◌∷◌, ◌++◌, map, Ok, Err, Result, sym, refl, ap, ◌∙◌, subst, inl, inr, arith}
 use Rattle.store.specs.declared.cause.Cause.{Cause}
 use Rattle.store.specs.declared.cause.Cause.TheVariants.{Power}
+use Rattle.store.specs.declared.keys.Key.{Key}
+use Rattle.journal.specs.declared.fault.Step.TheVariants as at
 use Rattle.store.specs.Disk.{View, Op, Does, Refuses}
-use Rattle.rules.specs.Rules.{Plan, ask, calls, refuse_if, Fault, Outcome, refused, stopped, Follows, Wrote}
+use Rattle.rules.specs.Rules.{Plan, answer, ask, calls, refuse_if, Fault, Outcome, answered, refused, stopped, Follows, Wrote, Looked}
 use Rattle.rules.specs.Rules.{Step as Rule}
 use Rattle.journal.specs.declared.fault.StoreFault.{StoreFault}
-use Rattle.journal.specs.Faults.{step_of, step_of_op}
+use Rattle.journal.specs.declared.fault.Fault.{Fault as Said}
+use Rattle.journal.specs.Faults.{Means, step_of, step_of_op}
 use Rattle.journal.specs.declared.fault.Fault.TheVariants.{Store}
-use Rattle.journal.specs.Logs.{Stops}
+use Rattle.journal.specs.Logs.{Denies, Stops}
 use Rattle.journal.specs.Steps.{Took, AllDone, StopsIn, TookAll, Halts, Asks}
 
 pub impossible : {A : Type 0} → ◌≡◌ {A = ℕ} 0 1 → A
@@ -77,22 +80,16 @@ module _ (f : ℕ → Op) (ns : List ℕ) where
 
 -- a question that is answered whatever the blobs are: the store is up, or it is down
 module _ {X : Type 0} where
-  pub answered_up : (b : Bool) (y : Result X Cause) (x : X) → cond b y (Err Power) ≡ Ok x → b ≡ true
-  answered_up true y x e = refl
-  answered_up false y x e = impossible (let z : ◌≡◌ {A = ℕ} 0 1 = cc in z)
-
-  pub answered_it : (b : Bool) (y : X) (x : X) → ◌≡◌ {A = Result X Cause} (cond b (Ok y) (Err Power)) (Ok x) → y ≡ x
-  answered_it true y x e = cc
-  answered_it false y x e = impossible (let z : ◌≡◌ {A = ℕ} 0 1 = cc in z)
+  pub answers : (b : Bool) (y : X) (x : X) → ◌≡◌ {A = Result X Cause} (cond b (Ok y) (Err Power)) (Ok x) → (b ≡ true) × (y ≡ x)
+  answers true y x e = (refl, cc)
+  answers false y x e = impossible (let z : ◌≡◌ {A = ℕ} 0 1 = cc in z)
 
   pub refused_down : (b : Bool) (y : X) (c : Cause) → ◌≡◌ {A = Result X Cause} (cond b (Ok y) (Err Power)) (Err c) → (b ≡ false) × (c ≡ Power)
   refused_down true y c e = impossible (let z : ◌≡◌ {A = ℕ} 0 1 = cc in z)
   refused_down false y c e = (refl, cc)
 
--- a question that is put to a store that is down
-pub halts_asked : {X : Type 0} (os : List Op) (v : View) (y : X) (e : StoreFault) (s : Rule) → e.step ≡ step_of s
-    → ◌≡◌ {A = Result X Cause} (cond v.up (Ok y) (Err Power)) (Err e.cause) → Halts os v e v
-halts_asked os v y e s st q = let h = refused_down v.up y e.cause q in inr (h.0, h.1, (s, st), refl)
+pub halts_looked : {X : Type 0} (os : List Op) (v : View) (k : Key) (y : X) (e : StoreFault) → e.step ≡ at.Looked k → ◌≡◌ {A = Result X Cause} (cond v.up (Ok y) (Err Power)) (Err e.cause) → Halts os v e v
+halts_looked os v k y e st q = let h = refused_down v.up y e.cause q in inr (h.0, h.1, (Looked k, st), refl)
 
 -- plans -----------------------------------------------------------------------------------------
 
@@ -138,3 +135,19 @@ module _ {A : Type 0} (p : Plan A) where
 
 pub told_stops : {A : Type 0} {p : Plan A} {v w : View} {e : StoreFault} → Told p v e w → Stops p v (Store e) w
 told_stops {A} {p} {v} {w} {e} t = (t.at, e.cause, (t.at, t.step, refl), t.follows)
+
+-- calls after a question, unless they are refused
+module _ {A : Type 0} (b : Bool) (f : Fault) (os : List Op) (x : A) (v : View) where
+  abbrev guarded : Plan A
+  guarded = refuse_if b f (ask (calls os (answer x)))
+
+  pub guard_refused : (e : Said) → Means {A = A} e (refused f) → b ≡ true → Denies guarded v e
+  guard_refused e m t = (f, m, refuse_yes f (ask (calls os (answer x))) v b t)
+
+  pub guard_done : (w : View) → b ≡ false → (v.up ≡ true) × AllDone os v w → Follows guarded v (answered x) w
+  guard_done w t a = refuse_not f (ask (calls os (answer x))) v b (answered x) w t (asks_done (answer x) os v w w (answered x) a (refl, refl))
+
+  pub guard_stopped : (w : View) (e : StoreFault) → b ≡ false → Halts os v e w → Stops guarded v (Store e) w
+  guard_stopped w e t h =
+      let q = told_stops (asks_stopped (answer x) os v w e h) in
+      (q.0, q.1, q.2, refuse_not f (ask (calls os (answer x))) v b _ w t q.3)

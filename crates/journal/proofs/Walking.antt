@@ -1,16 +1,22 @@
 -- The blobs that a walk goes over.
-use Rattle.std.proofs.Common.{◌≡◌, ℕ, suc, ◌+◌, ◌/◌, ◌<◌, ◌≤◌, Bool, true, false, cond, not, eqb, ltb, ◌⊎◌, [], ◌∷◌, length, get_or, is_some, Some, None, Ok, Err, Result, sym, refl, ap, ◌∙◌, inl, inr, arith}
+use Rattle.std.proofs.Common.{◌≡◌, ℕ, suc, ◌+◌, ◌/◌, ◌<◌, ◌≤◌, Bool, true, false, cond, not, eqb, ltb, ◌⊎◌, [], ◌∷◌, length, get_or, is_some, Some, None, Ok, Err, Option, Result, sym, refl, ap, ◌∙◌, inl, inr, arith}
 use Rattle.std.proofs.lemmas.Bool.{lt-ltb, le-ltb, eq-eqb, ne_eqb, cases_lt}
+use Rattle.std.specs.Bool.{then_some}
+use Rattle.std.specs.Option.{MatchOption}
 use Rattle.store.specs.declared.cause.Cause.{Cause}
 use Rattle.store.specs.declared.cause.Cause.TheVariants.{Power}
 use Rattle.store.specs.Disk.{Blob, Blobs, View, find, numbers, at_or_above}
 use Rattle.store.specs.Laws.{Rising, Lawful}
 use Rattle.store.proofs.Places.{length_numbers, above_none}
 use Rattle.rules.specs.Rules.{Config, MAX}
-use Rattle.rules.specs.Open.{below, capacity, walk, walk_all, stands}
+use Rattle.rules.specs.Open.{below, capacity, walk, stands}
 use Rattle.journal.specs.declared.fault.Fault.{Fault}
-use Rattle.journal.specs.Recovery.{rest, Fills, Walks}
-use Rattle.journal.proofs.Taken.{impossible}
+use Rattle.journal.specs.declared.walk.Filled.TheVariants.{Full, Short}
+use Rattle.journal.specs.declared.fault.Step.{Step}
+use Rattle.journal.specs.declared.fault.StoreFault.{StoreFault}
+use Rattle.journal.specs.Steps.{Asked}
+use Rattle.journal.specs.Recovery.{rest, is_more, Fills, Gives, Walks}
+use Rattle.journal.proofs.Taken.{answers, impossible}
 
 -- rising from lo on
 abbrev pub Up : ℕ → Blobs → Type 0
@@ -77,6 +83,15 @@ next_aside b e n (x ∷ xs) h q = elim (cases_lt x.0 b) [
       simp u
 ]
 
+-- what is listed, if it is below the edge
+pub next_is : {R : ℕ → Bool → Type 0} (b e : ℕ) (xs : Blobs) (o r : Option ℕ) → at_or_above b xs ≡ o → ((n : ℕ) (t : Bool) → R n t → t ≡ ltb n e)
+    → MatchOption o (r ≡ None) (λ n. (t : Bool) × R n t × (r ≡ then_some t n)) → r ≡ at_or_above b (below e xs)
+next_is b e xs None r q k m = m ∙ sym (next_none b e xs q)
+next_is b e xs (Some n) r q k m = elim (cases_lt n e) [
+  | inl l ↦ m.2 ∙ (ap (λ (t : Bool). then_some t n) (k n m.0 m.1 ∙ lt-ltb n e l) ∙ sym (next_some b e n xs l q))
+  | inr l ↦ m.2 ∙ (ap (λ (t : Bool). then_some t n) (k n m.0 m.1 ∙ le-ltb n e l) ∙ sym (next_aside b e n xs l q))
+]
+
 pub find_below : (e n : ℕ) (xs : Blobs) (x : Blob) → find (below e xs) n ≡ Some x → find xs n ≡ Some x
 find_below e n [] x q = q
 find_below e n (y ∷ ys) x q = elim (cases_lt y.0 e) [
@@ -132,6 +147,10 @@ pub never_down : {X P : Type 0} (t : Bool) (y : X) (c : Cause) → t ≡ true �
 never_down true y c u e = impossible (let z : ◌≡◌ {A = ℕ} 0 1 = cc in z)
 never_down false y c u e = impossible (let z : ◌≡◌ {A = ℕ} 0 1 = cc in z)
 
+pub gives : {A : Type 0} (s : Step) (up : Bool) (y : A) (r : Result A StoreFault) → up ≡ true → Asked s (cond up (Ok y) (Err Power)) r → Gives y r
+gives s up y (Ok x) u q = sym (answers up y x q).1
+gives s up y (Err e) u q = never_down up y e.cause u q.1
+
 pub more_is : (b : ℕ) (xs : Blobs) → is_some (at_or_above b xs) ≡ not (eqb (length (rest b xs)) 0)
 more_is b [] = refl
 more_is b (x ∷ xs) = elim (cases_lt x.0 b) [
@@ -140,10 +159,13 @@ more_is b (x ∷ xs) = elim (cases_lt x.0 b) [
 ]
 
 -- no number is above the largest
-pub nothing_past : (v : View) (b e : ℕ) → Lawful v → b ≡ MAX → at_or_above (b + 1) (below e v.disk.blobs) ≡ None
+pub nothing_past : (v : View) (b e : ℕ) → Lawful v → (b + 1 < 18446744073709551616 → ⊥) → at_or_above (b + 1) (below e v.disk.blobs) ≡ None
 nothing_past v b e laws h =
     let n = length_numbers v.disk.blobs in
-    next_none (b + 1) e v.disk.blobs (above_none (b + 1) v.disk.blobs (λ k l. let q = laws.fits k (omega arith) in omega arith))
+    next_none (b + 1) e v.disk.blobs (above_none (b + 1) v.disk.blobs (λ k l. let q = laws.fits k (omega arith) in omega (arith, h)))
+
+pub none_more : (v : View) (b e : ℕ) → Lawful v → (b + 1 < 18446744073709551616 → ⊥) → is_more b (below e v.disk.blobs) ≡ false
+none_more v b e laws n = sym (more_is (b + 1) (below e v.disk.blobs)) ∙ ap (is_some {T = ℕ}) (nothing_past v b e laws n)
 
 -- what the walk makes of the next blob
 module _ (c : Config) (s size b : ℕ) where
@@ -172,20 +194,6 @@ up_all v laws = up_rising 0 v.disk.blobs laws.rising (λ h. omega arith)
 pub up_store : (v : View) (e : ℕ) → Lawful v → Up 0 (below e v.disk.blobs)
 up_store v e laws = up_below 0 e v.disk.blobs (up_rising 0 v.disk.blobs laws.rising (λ h. omega arith))
 
--- the walk over all blobs begins at the lowest
-pub walk_all_lem : (c : Config) (s n : ℕ) (xs : Blobs) → Up 0 xs → at_or_above 0 xs ≡ Some n → walk_all c s xs ≡ walk c s s n (rest n xs)
-walk_all_lem c s n [] u e = impossible (let z : ◌≡◌ {A = ℕ} 0 1 = cc in z)
-walk_all_lem c s n (x ∷ xs) u e =
-    let t = le-ltb x.0 0 (omega arith) in
-    let q : Some x.0 ≡ Some n = simp t at e in
-    let p : x.0 ≡ n = cc in
-    let r : rest n (x ∷ xs) ≡ x ∷ xs = (let k = le-ltb x.0 n (omega arith) in simp k) in
-    ap (λ (k : ℕ). walk c s s k (x ∷ xs)) p ∙ ap (walk c s s n) (sym r)
-
-pub walk_empty : (c : Config) (s : ℕ) (xs : Blobs) → at_or_above 0 xs ≡ None → walk_all c s xs ≡ stands s false
-walk_empty c s [] e = refl
-walk_empty c s (x ∷ xs) e = let t = le-ltb x.0 0 (omega arith) in let q : Some x.0 ≡ None = simp t at e in impossible (let z : ◌≡◌ {A = ℕ} 0 1 = cc in z)
-
 -- one turn of the walk, at a blob that is there
 module _ (c : Config) (s size b e : ℕ) (v : View) (laws : Lawful v) (q : at_or_above b (below e v.disk.blobs) ≡ Some b) where
   here : Head b b (below e v.disk.blobs)
@@ -194,17 +202,17 @@ module _ (c : Config) (s size b e : ℕ) (v : View) (laws : Lawful v) (q : at_or
   found : find v.disk.blobs b ≡ Some here.blob
   found = find_below e b v.disk.blobs here.blob here.found
 
-  pub turn_full : (g : ℕ) (full : Bool) → ((x : Blob) → find v.disk.blobs b ≡ Some x → Fills c s size b (length x.bytes / c.z) (Ok (g, full))) → full ≡ true
+  pub turn_full : (g : ℕ) → ((x : Blob) → find v.disk.blobs b ≡ Some x → Fills c s size b (length x.bytes / c.z) (Ok (Full g)))
       → walk c s size b (rest b (below e v.disk.blobs)) ≡ walk c s g (b + 1) (rest (b + 1) (below e v.disk.blobs))
-  turn_full g full f t =
+  turn_full g f =
       let w = f here.blob found in
-      walk_on c s size b (rest b (below e v.disk.blobs)) (rest (b + 1) (below e v.disk.blobs)) b here.blob here.is refl g w.0 w.1 w.2 (sym w.3 ∙ t)
+      walk_on c s size b (rest b (below e v.disk.blobs)) (rest (b + 1) (below e v.disk.blobs)) b here.blob here.is refl g w.0 w.1 w.2 w.3
 
-  pub turn_short : (g : ℕ) (full : Bool) → ((x : Blob) → find v.disk.blobs b ≡ Some x → Fills c s size b (length x.bytes / c.z) (Ok (g, full))) → full ≡ false
+  pub turn_short : (g : ℕ) → ((x : Blob) → find v.disk.blobs b ≡ Some x → Fills c s size b (length x.bytes / c.z) (Ok (Short g)))
       → walk c s size b (rest b (below e v.disk.blobs)) ≡ stands g (not (eqb (length (rest (b + 1) (below e v.disk.blobs))) 0))
-  turn_short g full f t =
+  turn_short g f =
       let w = f here.blob found in
-      walk_short c s size b (rest b (below e v.disk.blobs)) (rest (b + 1) (below e v.disk.blobs)) b here.blob here.is refl g w.0 w.1 w.2 (sym w.3 ∙ t)
+      walk_short c s size b (rest b (below e v.disk.blobs)) (rest (b + 1) (below e v.disk.blobs)) b here.blob here.is refl g w.0 w.1 w.2 w.3
 
   pub turn_wrong : (y : Fault) → ((x : Blob) → find v.disk.blobs b ≡ Some x → Fills c s size b (length x.bytes / c.z) (Err y))
       → Walks (walk c s size b (rest b (below e v.disk.blobs))) (Err y)

@@ -1,5 +1,5 @@
 -- The logs by their meaning, and how a call of one ends.
-use Rattle.std.specs.Prelude.{◌≡◌, ℕ, Some, None, Ok, Err, Option, Result}
+use Rattle.std.specs.Prelude.{◌≡◌, ℕ, false, Some, None, Ok, Err, Option, Result}
 use Rattle.store.specs.declared.cause.Cause.{Cause}
 use Rattle.store.specs.Disk.{View}
 use Rattle.rules.specs.Rules.{Plan, Step, answered, refused, stopped, Follows}
@@ -17,6 +17,10 @@ edge_of (Some e) = e
 
 abbrev pub held_of : Held → Rule
 held_of h = record { start = h.start; end = h.end; mark = h.mark; bounded = h.bounded; edge = edge_of h.edge }
+
+-- a log of no positions, the first to come at t
+abbrev pub empty_at : ℕ → Rule
+empty_at t = record { start = t; end = t; mark = t; bounded = false; edge = no_edge }
 
 -- a plan is followed to a refusal that changes nothing, and a fault tells it
 abbrev pub Denies : {A : Type 0} → Plan A → View → Fault → Type 0

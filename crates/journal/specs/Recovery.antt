@@ -1,14 +1,20 @@
 -- Recovery, part by part: what each part answers of the rule of opening.
-use Rattle.std.specs.Prelude.{◌≡◌, ℕ, ◌+◌, ◌*◌, ◌<◌, ◌≤◌, min, Bool, true, false, cond, ◌⊎◌, [], ◌∷◌, reverse, Some, None, Ok, Err, Option, Result, ◌==◌, nat_lt}
+use Rattle.std.specs.Prelude.{◌≡◌, ℕ, ◌+◌, ◌*◌, ◌<◌, ◌≤◌, min, Bool, true, false, cond, not, ◌⊎◌, [], ◌∷◌, length, reverse, Some, None, Ok, Err, Option, Result, ◌==◌, nat_lt}
 use Rattle.std.specs.Option.{unwrap_or}
+use Rattle.std.specs.Bool.{then_some}
 use Rattle.store.specs.Disk.{Blob, Blobs, Disk, View, change}
-use Rattle.rules.specs.Rules.{Config, MAX, Plan, answer, refuse, refuse_if, Outcome, answered, refused, Follows, ItemPruned}
+use Rattle.rules.specs.Rules.{Config, MAX, Plan, answer, ask, refuse, refuse_if, Outcome, answered, refused, Follows, ItemPruned}
 use Rattle.rules.specs.Rules.{OffsetOverflow as Over}
 use Rattle.rules.specs.Rules.{Fault as Ruled}
-use Rattle.rules.specs.Open.{Opened, start_at, needed, round_up, examine, examine_two, capacity, Walked, stands, overfull, overflows, walk_all, weigh, below, edge_at, is_below, or_max, any_over}
+use Rattle.rules.specs.Open.{Opened, start_at, needed, round_up, examine, examine_two, capacity, passes, valid, standing, Walked, stands, overfull, overflows, walk_all, weigh, below, edge_at, is_below, or_max, any_over}
 use Rattle.journal.specs.declared.log.Held.{Held}
+use Rattle.journal.specs.declared.scope.Scope.{Scope}
+use Rattle.journal.specs.declared.walk.Filled.{Filled}
+use Rattle.journal.specs.declared.walk.Filled.TheVariants.{Full, Short}
+use Rattle.journal.specs.Configs.{ruled}
 use Rattle.journal.specs.declared.fault.Corrupt.TheVariants.{Overfull}
 use Rattle.journal.specs.declared.fault.Fault.{Fault}
+use Rattle.journal.specs.declared.fault.Fault.TheVariants.{ItemPruned as Pruned}
 use Rattle.journal.specs.declared.fault.Fault.TheVariants.{OffsetOverflow, Corruption}
 use Rattle.journal.specs.Faults.{Means}
 use Rattle.journal.specs.Logs.{held_of}
@@ -33,9 +39,14 @@ abbrev pub rest : ℕ → Blobs → Blobs
 rest b [] = []
 rest b (x ∷ xs) = cond (nat_lt x.0 b) (rest b xs) (x ∷ xs)
 
+-- whether there are blobs above b
+abbrev pub is_more : ℕ → Blobs → Bool
+is_more b xs = not (length (rest (b + 1) xs) == 0)
+
 -- one blob of the walk, with so many records
-abbrev pub Fills : Config → ℕ → ℕ → ℕ → ℕ → Result (ℕ × Bool) Fault → Type 0
-Fills c s size b len (Ok x) = (nat_lt (capacity c s b) len ≡ false) × (nat_lt MAX (size + len) ≡ false) × (x.0 ≡ size + len) × (x.1 ≡ (len == capacity c s b))
+abbrev pub Fills : Config → ℕ → ℕ → ℕ → ℕ → Result Filled Fault → Type 0
+Fills c s size b len (Ok (Full g)) = (nat_lt (capacity c s b) len ≡ false) × (nat_lt MAX (size + len) ≡ false) × (g ≡ size + len) × ((len == capacity c s b) ≡ true)
+Fills c s size b len (Ok (Short g)) = (nat_lt (capacity c s b) len ≡ false) × (nat_lt MAX (size + len) ≡ false) × (g ≡ size + len) × ((len == capacity c s b) ≡ false)
 Fills c s size b len (Err f) =
     ((nat_lt (capacity c s b) len ≡ true) × (f ≡ Corruption Overfull))
     ⊎ ((nat_lt (capacity c s b) len ≡ false) × (nat_lt MAX (size + len) ≡ true) × (f ≡ OffsetOverflow))
@@ -46,7 +57,7 @@ Walks q (Ok x) = q ≡ stands x.0 x.1
 Walks q (Err f) = ((q ≡ overfull) × (f ≡ Corruption Overfull)) ⊎ ((q ≡ overflows) × (f ≡ OffsetOverflow))
 
 -- a question that a store which is up answers
-abbrev pub Gives : {A : Type 0} → A → Result A Fault → Type 0
+abbrev pub Gives : {A E : Type 0} → A → Result A E → Type 0
 Gives y (Ok x) = x ≡ y
 Gives y (Err f) = ⊥
 
@@ -60,10 +71,14 @@ abbrev pub limit_for : Config → ℕ → Option ℕ → ℕ → ℕ → ℕ
 limit_for c s None b len = len
 limit_for c s (Some k) b len = min len (round_up c.page (min MAX (needed c s (Some k) b * c.z)))
 
+-- where a suspect is cut, if it does not pass
+abbrev pub cut_of : Config → ℕ → Option ℕ → ℕ × Blob → Option ℕ
+cut_of c s ceiling x = then_some (not (passes c s ceiling x)) (valid c s ceiling x)
+
 -- as many acknowledged bytes, or more than a number can tell
-abbrev pub Owed : ℕ → Option ℕ → Type 0
-Owed n (Some a) = (a ≡ n) × (n ≤ MAX)
-Owed n None = MAX < n
+abbrev pub Owed : ℕ → Result ℕ Fault → Type 0
+Owed n (Ok a) = (a ≡ n) × (n ≤ MAX)
+Owed n (Err f) = (MAX < n) × (f ≡ OffsetOverflow)
 
 -- a plan is followed to the end that a fault tells
 abbrev pub Ends : Plan Opened → View → Fault → View → Type 0
@@ -97,6 +112,11 @@ ExaminedTwo c s ceiling floor e v (Ok y) w =
     (w.up ≡ true) × ((k : Blobs → Plan Opened) → Leads (examine_two c s ceiling floor (reverse (below e v.disk.blobs)) k) v (k (below e w.disk.blobs)) w)
 ExaminedTwo c s ceiling floor e v (Err f) w = (k : Blobs → Plan Opened) → Ends (examine_two c s ceiling floor (reverse (below e v.disk.blobs)) k) v f w
 
+-- the ceiling is not below the start
+abbrev pub Reaches : {A : Type 0} → ℕ → Option ℕ → Result A Fault → Type 0
+Reaches s ceiling (Ok y) = is_below ceiling s ≡ false
+Reaches s ceiling (Err f) = (is_below ceiling s ≡ true) × (f ≡ Pruned (or_max ceiling))
+
 -- the ceiling is not below the start, and every blob's first position is a number
 abbrev pub admitted : Config → ℕ → Option ℕ → Blobs → Plan Opened → Plan Opened
 admitted c s ceiling xs p = refuse_if (is_below ceiling s) (ItemPruned (or_max ceiling)) (refuse_if (any_over c xs) Over p)
@@ -110,6 +130,11 @@ abbrev pub spanned : Config → ℕ → Option ℕ → Disk → Plan Opened
 spanned c s ceiling d =
     examine_two c s ceiling (min (unwrap_or d.present.watermark 0) (or_max ceiling)) (reverse (below (edge_at c s ceiling) d.blobs)) (λ bs.
     weigh c s ceiling (edge_at c s ceiling) d.present.watermark (walk_all c s bs))
+
+-- the scope that a log with no staged clear is opened in
+abbrev pub FindsScope : Config → Option ℕ → View → Result Scope Fault → Type 0
+FindsScope c ceiling v (Ok x) = standing c ceiling v.disk ≡ spanned (ruled x.config) x.start x.ceiling v.disk
+FindsScope c ceiling v (Err f) = Ends (ask (standing c ceiling v.disk)) v f v
 
 -- a part of opening that ends it
 abbrev pub Recovers : Plan Opened → View → Result Held Fault → View → Type 0

@@ -9,6 +9,11 @@ use Rattle.journal.specs.declared.fault.StoreFault.{StoreFault}
 use Rattle.rules.specs.Rules.{Step as Rule}
 use Rattle.journal.specs.Faults.{step_of, step_of_op}
 
+-- what the store answers, where a refusal names its step
+abbrev pub named : {X : Type 0} → Step → Result X Cause → Result X StoreFault
+named s (Ok x) = Ok x
+named s (Err y) = Err (record { cause = y; step = s })
+
 -- one writing call
 abbrev pub Took : {X : Type 0} → Op → View → Result X StoreFault → View → Type 0
 Took o v (Ok x) w = Does o v w

@@ -6,12 +6,12 @@ use Rattle.rules.specs.Calls.{trimmed_append_rule, trimmed_prune_rule, trimmed_s
 use Rattle.journal.specs.declared.fault.StoreFault.{StoreFault}
 use Rattle.journal.specs.declared.log.Lost.{Lost}
 use Rattle.journal.specs.declared.log.Stop.{Stop}
-use Rattle.journal.specs.declared.log.Trimmed.{Trimmed}
+use Rattle.journal.specs.declared.log.Log.{Log}
 use Rattle.journal.specs.Configs.{ruled}
 use Rattle.journal.specs.Logs.{held_of, Calls, Stops}
 use Rattle.journal.specs.Steps.{Down}
 
-abbrev pub Synced : {S K : Type 0} → (S → View) → Trimmed S K → Result (Trimmed S K) (Lost S) → Type 0
+abbrev pub Synced : {P S K : Type 0} → (S → View) → Log P S K → Result (Log P S K) (Lost S) → Type 0
 Synced view l (Ok x) =
     Follows (trimmed_sync_rule (ruled l.config) (view l.store).disk (held_of l.held)) (view l.store) (answered (held_of x.held)) (view x.store)
     × (x.config ≡ l.config)
@@ -26,11 +26,11 @@ Finds h v (Err e) = Down v e v
 abbrev pub adding : Config → ℕ → List ℕ → List Op
 adding c end bytes = Append (blob_of c end) bytes ∷ cond (aligned c (end + 1)) (Sync (blob_of c end) ∷ []) []
 
-abbrev pub Appended : {S K : Type 0} → (S → View) → Trimmed S K → List ℕ → Result (Trimmed S K) (Stop (Trimmed S K) S) → Type 0
+abbrev pub Appended : {P S K : Type 0} → (S → View) → Log P S K → List ℕ → Result (Log P S K) (Stop (Log P S K) S) → Type 0
 Appended view l bytes r =
     Calls view (λ x. x.store) (λ x. held_of x.held) (λ x. x.config ≡ l.config) (trimmed_append_rule (ruled l.config) (view l.store).disk (held_of l.held) bytes) (view l.store) l r
 
-abbrev pub Pruned : {S K : Type 0} → (S → View) → Trimmed S K → ℕ → Result (Trimmed S K × Bool) (Lost S) → Type 0
+abbrev pub Pruned : {P S K : Type 0} → (S → View) → Log P S K → ℕ → Result (Log P S K × Bool) (Lost S) → Type 0
 Pruned view l p (Ok x) =
     Follows (trimmed_prune_rule (ruled l.config) (view l.store).disk (held_of l.held) p) (view l.store) (answered (held_of x.0.held, x.1)) (view x.0.store)
     × (x.0.config ≡ l.config)

@@ -1,5 +1,5 @@
 // One record is appended.
-ghost use Rattle.std.specs.Prelude.{◌≡◌, ◌+◌, ◌<◌, [], ◌∷◌, ◌++◌, length, if◌then◌else◌};
+ghost use Rattle.std.specs.Prelude.{◌≡◌, ◌+◌, ◌<◌, [], ◌∷◌, ◌++◌, if◌then◌else◌};
 ghost use Rattle.store.specs.Disk.{Sync, numbers};
 ghost use Rattle.rules.specs.Rules.{MAX, aligned, blob_of};
 ghost use Rattle.rules.specs.Calls.{has, open_if};
@@ -9,18 +9,26 @@ ghost use Rattle.journal.specs.Trimming.{Finds, adding};
 
 use crate::config::Config;
 use crate::fault::StoreFault;
-use crate::positions::position_to_blob;
 use crate::steps;
 use record::record::Record;
+use std::marker::PhantomData;
 use store::store::Store;
 
+// Where a record of the kind K goes: there is a position, and the log is one of records as large.
+#[derive(Drop)]
+pub struct Tail<K: Record> {
+    pub config: Config,
+    pub end: u64,
+    pub kind: PhantomData<K>,
+    ghost room: { end < MAX },
+    ghost sized: { K.Record.size ≡ config.size },
+}
+
+#[tactic(auto, using(crate::proofs::Listing::has_is, crate::proofs::Walking::up_all, crate::proofs::Taken::answers))]
 fn has_blob<S: Store>(store: &S, b: u64) -> Result<bool, StoreFault>
     ensures { Finds (has b (numbers (S.view store.now).disk.blobs)) (S.view store.now) result }
 {
-    let Some(found) = steps::at_or_above(store, b)? else {
-        return Ok(false);
-    };
-    Ok(found == b)
+    Ok(steps::at_or_above(store, b)? == Some(b))
 }
 
 // A missing blob is made.
@@ -33,74 +41,44 @@ fn ensure_blob<S: Store>(store: &mut S, b: u64) -> Result<(), StoreFault>
     steps::open(store, b)
 }
 
-// A blob that is full is synced.
-fn seal<S: Store>(store: &mut S, config: Config, end: u64, b: u64) -> Result<(), StoreFault>
-    requires { end < MAX }
-    ensures { TookAll (if aligned (ruled config) (end + 1) then Sync b ∷ [] else []) (S.view store.old) result (S.view store.new) }
-{
-    if (end + 1) % config.records != 0 {
-        return Ok(());
+impl<K: Record> Tail<K> {
+    fn blob(&self) -> u64
+        ensures { result ≡ blob_of (ruled self.now.config) self.now.end }
+    {
+        self.config.blob_of(self.end)
     }
-    steps::sync(store, b)
-}
 
-fn add_bytes<S: Store>(
-    store: &mut S,
-    config: Config,
-    end: u64,
-    bytes: &[u8],
-) -> Result<(), StoreFault>
-    requires { end < MAX }
-    ensures { TookAll (adding (ruled config) end bytes.now) (S.view store.old) result (S.view store.new) }
-{
-    let b = position_to_blob(config, end);
-    steps::append(store, b, bytes)?;
-    seal(store, config, end, b)
-}
+    // A blob that is full is synced.
+    fn seal<S: Store>(&self, store: &mut S) -> Result<(), StoreFault>
+        ensures { TookAll (if aligned (ruled self.now.config) (self.now.end + 1) then Sync (blob_of (ruled self.now.config) self.now.end) ∷ [] else []) (S.view store.old) result (S.view store.new) }
+    {
+        if !self.config.is_aligned(self.end + 1) {
+            return Ok(());
+        }
+        steps::sync(store, self.blob())
+    }
 
-fn write_bytes<S: Store>(
-    store: &mut S,
-    config: Config,
-    end: u64,
-    bytes: &[u8],
-) -> Result<(), StoreFault>
-    requires { end < MAX }
-    ensures { Asks (open_if (has (blob_of (ruled config) end) (numbers (S.view store.old).disk.blobs)) (blob_of (ruled config) end) ++ adding (ruled config) end bytes.now) (S.view store.old) result (S.view store.new) }
-{
-    ensure_blob(store, position_to_blob(config, end))?;
-    add_bytes(store, config, end, bytes)
-}
+    fn add_bytes<S: Store>(&self, store: &mut S, bytes: &[u8]) -> Result<(), StoreFault>
+        ensures { TookAll (adding (ruled self.now.config) self.now.end bytes.now) (S.view store.old) result (S.view store.new) }
+    {
+        steps::append(store, self.blob(), bytes)?;
+        self.seal(store)
+    }
 
-// Through lent bytes, as many as a record has.
-fn write_through<S: Store, K: Record>(
-    store: &mut S,
-    config: Config,
-    end: u64,
-    item: K,
-    bytes: &mut [u8],
-) -> Result<(), StoreFault>
-    requires { (end < MAX) × (length bytes.old ≡ config.size) }
-    ensures { K.Record.size ≡ config.size → Asks (open_if (has (blob_of (ruled config) end) (numbers (S.view store.old).disk.blobs)) (blob_of (ruled config) end) ++ adding (ruled config) end (K.encode item)) (S.view store.old) result (S.view store.new) }
-{
-    let _ = item.write(bytes);
-    write_bytes(store, config, end, bytes)
-}
+    fn write_bytes<S: Store>(&self, store: &mut S, bytes: &[u8]) -> Result<(), StoreFault>
+        ensures { Asks (open_if (has (blob_of (ruled self.now.config) self.now.end) (numbers (S.view store.old).disk.blobs)) (blob_of (ruled self.now.config) self.now.end) ++ adding (ruled self.now.config) self.now.end bytes.now) (S.view store.old) result (S.view store.new) }
+    {
+        ensure_blob(store, self.blob())?;
+        self.add_bytes(store, bytes)
+    }
 
-pub fn write_record<S: Store, K: Record>(
-    store: &mut S,
-    config: Config,
-    end: u64,
-    item: K,
-) -> Result<(), StoreFault>
-    requires { end < MAX }
-    ensures { K.Record.size ≡ config.size → Asks (open_if (has (blob_of (ruled config) end) (numbers (S.view store.old).disk.blobs)) (blob_of (ruled config) end) ++ adding (ruled config) end (K.encode item)) (S.view store.old) result (S.view store.new) }
-{
-    let mut buffer = [0u8; 4096];
-    write_through(
-        store,
-        config,
-        end,
-        item,
-        &mut buffer[0..config.size as usize],
-    )
+    // Through bytes on the stack, as many as a record has, since the journal uses no heap.
+    pub fn write<S: Store>(&self, store: &mut S, item: K) -> Result<(), StoreFault>
+        ensures { Asks (open_if (has (blob_of (ruled self.now.config) self.now.end) (numbers (S.view store.old).disk.blobs)) (blob_of (ruled self.now.config) self.now.end) ++ adding (ruled self.now.config) self.now.end (K.encode item)) (S.view store.old) result (S.view store.new) }
+    {
+        let mut buffer = [0u8; 4096];
+        let bytes = &mut buffer[..self.config.size as usize];
+        let _ = item.write(bytes);
+        self.write_bytes(store, bytes)
+    }
 }

@@ -17,7 +17,7 @@ use store::store::Store;
 fn note_boundary<S: Store>(store: &mut S, config: Config, boundary: u64) -> Result<(), StoreFault>
     ensures { Took (if aligned (ruled config) boundary then DropKey Hint else Put Hint boundary) (S.view store.old) result (S.view store.new) }
 {
-    if boundary % config.records == 0 {
+    if config.is_aligned(boundary) {
         steps::drop_key(store, Key::Hint)
     } else {
         steps::put(store, Key::Hint, boundary)
@@ -25,6 +25,7 @@ fn note_boundary<S: Store>(store: &mut S, config: Config, boundary: u64) -> Resu
 }
 
 // Records the boundary and the watermark; the keys are always synced.
+#[tactic(auto, using(crate::proofs::Taken::next, crate::proofs::Taken::one))]
 pub(crate) fn persist<S: Store>(
     store: &mut S,
     config: Config,
@@ -39,13 +40,14 @@ pub(crate) fn persist<S: Store>(
 }
 
 // Lowers the watermark to a limit if it is above.
+#[tactic(auto, using(crate::proofs::Taken::halts_looked))]
 fn lower_watermark<S: Store>(store: &mut S, limit: u64) -> Result<(), StoreFault>
     ensures { Asks (if is_above (S.view store.old).disk.present.watermark limit then Put Watermark limit ∷ [] else []) (S.view store.old) result (S.view store.new) }
 {
-    match steps::look(store, Key::Watermark)? {
-        Some(mark) if mark > limit => steps::put(store, Key::Watermark, limit),
-        _ => Ok(()),
+    if steps::look(store, Key::Watermark)?.is_some_and(|mark| mark > limit) {
+        steps::put(store, Key::Watermark, limit)?;
     }
+    Ok(())
 }
 
 fn intend<S: Store>(store: &mut S, target: u64) -> Result<(), StoreFault>
@@ -56,21 +58,10 @@ fn intend<S: Store>(store: &mut S, target: u64) -> Result<(), StoreFault>
 }
 
 // Records the intent to clear to a target.
+#[tactic(auto, using(crate::proofs::Taken::asks_early))]
 pub(crate) fn stage_clear<S: Store>(store: &mut S, target: u64) -> Result<(), StoreFault>
     ensures { Asks (staging (S.view store.old).disk.present target) (S.view store.old) result (S.view store.new) }
 {
     lower_watermark(store, target)?;
     intend(store, target)
-}
-
-// Completes a clear: the target goes, and it is the boundary and the watermark.
-pub(crate) fn finish_clear<S: Store>(
-    store: &mut S,
-    config: Config,
-    target: u64,
-) -> Result<(), StoreFault>
-    ensures { TookAll (DropKey Target ∷ persisting (ruled config) target target) (S.view store.old) result (S.view store.new) }
-{
-    steps::drop_key(store, Key::Target)?;
-    persist(store, config, target, target)
 }

@@ -1,43 +1,36 @@
 // A staged clear is carried out: every blob goes, the target's blob is made, and the keys say so.
-ghost use Rattle.std.specs.Prelude.{◌∷◌, map};
-ghost use Rattle.store.specs.Disk.{Open, Remove, DropKey, numbers};
+ghost use Rattle.std.specs.Prelude.{◌∷◌};
+ghost use Rattle.store.specs.Disk.{Open, DropKey, numbers};
 ghost use Rattle.store.specs.declared.keys.Key.TheVariants.{Target};
 ghost use Rattle.rules.specs.Rules.{blob_of, clearing};
 ghost use Rattle.rules.specs.Rules.{persist as persisting};
 ghost use Rattle.journal.specs.Configs.{ruled};
 ghost use Rattle.journal.specs.Steps.{Asks, TookAll};
 
+use crate::checkpoint::persist;
 use crate::config::Config;
 use crate::fault::StoreFault;
-use crate::{checkpoint, steps};
+use crate::steps;
+use crate::sweep::remove_below;
+use store::keys::Key;
 use store::store::Store;
-
-// Removes the blobs, lowest first.
-fn remove_all<S: Store>(store: &mut S) -> Result<(), StoreFault>
-    ensures { Asks (map Remove (numbers (S.view store.old).disk.blobs)) (S.view store.old) result (S.view store.new) }
-{
-    'blobs: loop {
-        let Some(b) = steps::at_or_above(store, 0)? else {
-            return Ok(());
-        };
-        steps::remove(store, b)?;
-    }
-}
 
 fn begin_at<S: Store>(store: &mut S, config: Config, target: u64) -> Result<(), StoreFault>
     ensures { TookAll (Open (blob_of (ruled config) target) ∷ (DropKey Target ∷ persisting (ruled config) target target)) (S.view store.old) result (S.view store.new) }
 {
-    steps::open(store, target / config.records)?;
-    checkpoint::finish_clear(store, config, target)
+    steps::open(store, config.blob_of(target))?;
+    steps::drop_key(store, Key::Target)?;
+    persist(store, config, target, target)
 }
 
-pub(crate) fn complete_clear<S: Store>(
+#[tactic(auto, using(crate::proofs::Taken::asks_then, crate::proofs::Taken::asks_early, crate::proofs::Pruning::up_to_all))]
+pub fn complete_clear<S: Store>(
     store: &mut S,
     config: Config,
     target: u64,
 ) -> Result<(), StoreFault>
     ensures { Asks (clearing (ruled config) target (numbers (S.view store.old).disk.blobs)) (S.view store.old) result (S.view store.new) }
 {
-    remove_all(store)?;
+    remove_below(store, None)?;
     begin_at(store, config, target)
 }

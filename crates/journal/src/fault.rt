@@ -57,12 +57,12 @@ pub enum Fault {
     Store(StoreFault),
 }
 
-impl Fault {
-    // The number that it is known by.
-    pub fn number(self) -> u8
-        ensures { result ≡ number_of self }
-    {
-        match self {
+// The number that it is known by.
+impl From<Fault> for u8 {
+    ghost from_gives = { λ f n. n ≡ number_of f };
+
+    fn from(f: Fault) -> u8 {
+        match f {
             Fault::BadConfig => 1,
             Fault::ItemPruned(_) => 2,
             Fault::ItemOutOfRange(_) => 3,

@@ -1,12 +1,15 @@
-// The logs of a store, and how a call of one ends.
+// The log of a store, and how a call of it ends.
 ghost use Rattle.std.specs.Prelude.{◌≡◌};
+ghost use Rattle.journal.specs.declared.fault.Fault.TheVariants.{Store as InStore};
 ghost use Rattle.journal.specs.declared.log.Stop.TheVariants.{Ended};
+ghost use Rattle.journal.specs.Logs.{empty_at, held_of};
 
 use crate::config::Config;
-use crate::fault::Fault;
+use crate::fault::{Fault, StoreFault};
 use std::marker::PhantomData;
 
 // Positions from start to end, of which those below mark are acknowledged. Blobs from edge on are set aside.
+// A log that was opened under a ceiling stays bounded when none is set aside any more: edge does not tell it.
 #[derive(Clone, Copy)]
 pub struct Held {
     pub(crate) start: u64,
@@ -16,20 +19,40 @@ pub struct Held {
     pub(crate) edge: Option<u64>,
 }
 
-// Takes no records: it is trimmed first.
-pub struct Opened<S, K> {
+impl Held {
+    // No positions, and the one that comes first.
+    pub(crate) fn empty_at(position: u64) -> Held
+        ensures { held_of result ≡ empty_at position }
+    {
+        Held {
+            start: position,
+            end: position,
+            mark: position,
+            bounded: false,
+            edge: None,
+        }
+    }
+}
+
+// The state of a log as it was found: its store may have more than the log has positions for.
+pub struct Found;
+
+// The state of a log with nothing above its end.
+pub struct Clean;
+
+// Records of the kind K in a store. The state P says what may be called.
+pub struct Log<P, S, K> {
     pub(crate) store: S,
     pub(crate) config: Config,
     pub(crate) held: Held,
+    pub(crate) state: PhantomData<P>,
     pub(crate) kind: PhantomData<K>,
 }
 
-pub struct Trimmed<S, K> {
-    pub(crate) store: S,
-    pub(crate) config: Config,
-    pub(crate) held: Held,
-    pub(crate) kind: PhantomData<K>,
-}
+// Takes no records: it is trimmed first.
+pub type Opened<S, K> = Log<Found, S, K>;
+
+pub type Trimmed<S, K> = Log<Clean, S, K>;
 
 // A refused call hands the log back as it was, and one that ends it the store.
 pub enum Stop<L, S> {
@@ -61,7 +84,7 @@ impl<L, S> From<Lost<S>> for Stop<L, S> {
     }
 }
 
-impl<S, K> Opened<S, K> {
+impl<P, S, K> Log<P, S, K> {
     // Its first position, and the one after its last.
     pub fn span(&self) -> (u64, u64)
         ensures { (result.0 ≡ self.now.held.start) × (result.1 ≡ self.now.held.end) }
@@ -73,32 +96,23 @@ impl<S, K> Opened<S, K> {
     pub fn into_store(self) -> S
         ensures { result ≡ self.store }
     {
-        let Opened {
+        let Log {
             store,
             config: _,
             held: _,
+            state: _,
             kind: _,
         } = self;
         store
     }
-}
 
-impl<S, K> Trimmed<S, K> {
-    pub fn span(&self) -> (u64, u64)
-        ensures { (result.0 ≡ self.now.held.start) × (result.1 ≡ self.now.held.end) }
+    // A log ends by what its store refused.
+    pub(crate) fn ended_by(self, e: StoreFault) -> Lost<S>
+        ensures { result ≡ record { store = self.store; fault = InStore e } }
     {
-        (self.held.start, self.held.end)
-    }
-
-    pub fn into_store(self) -> S
-        ensures { result ≡ self.store }
-    {
-        let Trimmed {
-            store,
-            config: _,
-            held: _,
-            kind: _,
-        } = self;
-        store
+        Lost {
+            store: self.into_store(),
+            fault: Fault::Store(e),
+        }
     }
 }

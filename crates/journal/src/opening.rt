@@ -2,7 +2,7 @@
 ghost use Rattle.journal.specs.Opens.{Opens};
 
 use crate::config::Config;
-use crate::log::{Lost, Opened};
+use crate::log::{Log, Lost, Opened};
 use crate::recover::recover_all;
 use record::record::Record;
 use std::marker::PhantomData;
@@ -14,10 +14,11 @@ impl<S: Store, K: Record> Opened<S, K> {
         ensures { Opens S.view config ceiling (S.view store) result }
     {
         match recover_all(&mut store, config, ceiling) {
-            Ok(held) => Ok(Opened {
+            Ok(held) => Ok(Log {
                 store,
                 config,
                 held,
+                state: PhantomData,
                 kind: PhantomData,
             }),
             Err(fault) => Err(Lost { store, fault }),

@@ -6,31 +6,18 @@ ghost use Rattle.journal.specs.Steps.{Asks, TookAll};
 
 use crate::fault::StoreFault;
 use crate::steps;
-use crate::trimmed::sync_all;
+use crate::sweep::{remove_below, sync_all};
 use store::store::Store;
 
-// Removes the blobs below b, lowest first.
-fn remove_below<S: Store>(store: &mut S, b: u64) -> Result<(), StoreFault>
-    ensures { Asks (map Remove (up_to b (numbers (S.view store.old).disk.blobs))) (S.view store.old) result (S.view store.new) }
-{
-    'blobs: loop {
-        let Some(found) = steps::at_or_above(store, 0)? else {
-            return Ok(());
-        };
-        if found >= b {
-            return Ok(());
-        }
-        steps::remove(store, found)?;
-    }
-}
-
+#[tactic(auto, using(crate::proofs::Taken::asks_then, crate::proofs::Taken::asks_early, crate::proofs::Taken::done_up, crate::proofs::Pruning::synced_numbers, crate::proofs::Pruning::asks_took))]
 fn sync_and_remove<S: Store>(store: &mut S, b: u64) -> Result<(), StoreFault>
     ensures { Asks (map Sync (numbers (S.view store.old).disk.blobs) ++ map Remove (up_to b (numbers (S.view store.old).disk.blobs))) (S.view store.old) result (S.view store.new) }
 {
     sync_all(store)?;
-    remove_below(store, b)
+    remove_below(store, Some(b))
 }
 
+#[tactic(auto, using(crate::proofs::Taken::next, crate::proofs::Pruning::up_to_insert, crate::proofs::Pruning::asks_took))]
 pub fn prune_to<S: Store>(store: &mut S, b: u64) -> Result<(), StoreFault>
     ensures { TookAll (Open b ∷ (map Sync (numbers (insert b (S.view store.old).disk.blobs)) ++ map Remove (up_to b (numbers (S.view store.old).disk.blobs)))) (S.view store.old) result (S.view store.new) }
 {

@@ -1,10 +1,10 @@
-use Rattle.std.proofs.Common.{ℕ, Ok, Err, Option, Result, sym, ◌∙◌}
+use Rattle.std.proofs.Common.{ℕ, Ok, Err, Option, Result, sym, ap, ◌∙◌}
 use Rattle.std.proofs.lemmas.Result.{err_from_is_err_and}
 use Rattle.store.specs.Disk.{View}
 use Rattle.rules.specs.Rules.{Config}
 use Rattle.journal.specs.Configs.{ruled}
-use Rattle.journal.specs.Logs.{edge_of}
-use Rattle.journal.specs.Recovery.{Examined, ExaminedTwo, Stood}
+use Rattle.rules.specs.Open.{below, edge_at}
+use Rattle.journal.specs.Recovery.{Examined, ExaminedTwo, Stood, highest}
 use Rattle.journal.specs.declared.fault.Fault.{Fault}
 use Rattle.journal.proofs.Suspecting.{Split, split_at, two_none, first_stops, one_only, second_stops, both}
 use Rattle.journal.proofs.suspects.examine_two.Goals as goal
@@ -14,51 +14,42 @@ returns-in_default g c =
     let v = g.S.Store.view c.args.store.now in
     let s = c.args.scope in
     let rule = ruled s.config in
-    (c.requires, two_none rule s.start s.ceiling c.args.floor (edge_of c.args.edge) v (sym c.in_ok-high.ensures ∙ c.in_default.is))
+    let h = c.in_ok-high.ensures ∙ ap (λ (n : ℕ). highest (below n v.disk.blobs)) c.edge.ensures in
+    (c.requires, two_none rule s.start s.ceiling c.args.floor (edge_at rule s.start s.ceiling) v (sym h ∙ c.in_default.is))
 
 pub returns-in_err-examine_suspect : goal.returns-in_err-examine_suspect
 returns-in_err-examine_suspect g c =
     let v = g.S.Store.view c.args.store.now in
     let s = c.args.scope in
     let rule = ruled s.config in
-    let e = edge_of c.args.edge in
+    let e = edge_at rule s.start s.ceiling in
+    let h = c.in_ok-high.ensures ∙ ap (λ (n : ℕ). highest (below n v.disk.blobs)) c.edge.ensures in
     let b = c.in-Some.high in
-    let p = split_at e b v (g.met.S.Store.lawful c.args.store.now) (sym c.in_ok-high.ensures ∙ c.in-Some.is) in
+    let p = split_at e b v (g.met.S.Store.lawful c.args.store.now) (sym h ∙ c.in-Some.is) in
     let w = g.S.Store.view c.examine_suspect.new.store in
     let r = err_from_is_err_and c.from_residual-in_err-examine_suspect.result c.from_residual-in_err-examine_suspect.ensures.1 in
     rw (r.1, r.2) (first_stops rule s.start s.ceiling c.args.floor e b v p c.in_err-examine_suspect.field-0.0 w (c.in_err-examine_suspect.ensures p.blob p.found))
 
-pub highest_below-requires-2 : goal.highest_below-requires-2
-highest_below-requires-2 g c =
+pub invariant_of-highest_below-2 : goal.invariant_of-highest_below-2
+invariant_of-highest_below-2 g c =
     let v = g.S.Store.view c.args.store.now in
     let s = c.args.scope in
     let rule = ruled s.config in
-    let e = edge_of c.args.edge in
+    let e = edge_at rule s.start s.ceiling in
+    let h = c.in_ok-high.ensures ∙ ap (λ (n : ℕ). highest (below n v.disk.blobs)) c.edge.ensures in
     let b = c.in-Some.high in
-    let p = split_at e b v (g.met.S.Store.lawful c.args.store.now) (sym c.in_ok-high.ensures ∙ c.in-Some.is) in
-    (c.in_ok-examine_suspect.ensures p.blob p.found).up
-
-pub examine_suspect-requires-2 : goal.examine_suspect-requires-2
-examine_suspect-requires-2 g c =
-    let v = g.S.Store.view c.args.store.now in
-    let s = c.args.scope in
-    let rule = ruled s.config in
-    let e = edge_of c.args.edge in
-    let b = c.in-Some.high in
-    let p = split_at e b v (g.met.S.Store.lawful c.args.store.now) (sym c.in_ok-high.ensures ∙ c.in-Some.is) in
-    (c.in_ok-examine_suspect.ensures p.blob p.found).up
-
-pub returns-in_err-next : goal.returns-in_err-next
-returns-in_err-next g c = absurd c.in_err-next.ensures
+    let p = split_at e b v (g.met.S.Store.lawful c.args.store.now) (sym h ∙ c.in-Some.is) in
+    record { up = (c.in_ok-examine_suspect.ensures p.blob p.found).up }
 
 pub returns-in_default-2 : goal.returns-in_default-2
 returns-in_default-2 g c =
     let v = g.S.Store.view c.args.store.now in
     let s = c.args.scope in
     let rule = ruled s.config in
-    let e = edge_of c.args.edge in
+    let e = edge_at rule s.start s.ceiling in
+    let h = c.in_ok-high.ensures ∙ ap (λ (n : ℕ). highest (below n v.disk.blobs)) c.edge.ensures in
     let b = c.in-Some.high in
-    let p = split_at e b v (g.met.S.Store.lawful c.args.store.now) (sym c.in_ok-high.ensures ∙ c.in-Some.is) in
+    let p = split_at e b v (g.met.S.Store.lawful c.args.store.now) (sym h ∙ c.in-Some.is) in
     let u = g.S.Store.view c.examine_suspect.new.store in
     let st = c.in_ok-examine_suspect.ensures p.blob p.found in
     (st.up, one_only rule s.start s.ceiling c.args.floor e b v p u st (sym c.in_ok-next.ensures ∙ c.in_default-2.is))
@@ -74,9 +65,10 @@ returns g c =
     let v = g.S.Store.view c.args.store.now in
     let s = c.args.scope in
     let rule = ruled s.config in
-    let e = edge_of c.args.edge in
+    let e = edge_at rule s.start s.ceiling in
+    let h = c.in_ok-high.ensures ∙ ap (λ (n : ℕ). highest (below n v.disk.blobs)) c.edge.ensures in
     let b = c.in-Some.high in
-    let p = split_at e b v (g.met.S.Store.lawful c.args.store.now) (sym c.in_ok-high.ensures ∙ c.in-Some.is) in
+    let p = split_at e b v (g.met.S.Store.lawful c.args.store.now) (sym h ∙ c.in-Some.is) in
     let u = g.S.Store.view c.examine_suspect.new.store in
     let st = c.in_ok-examine_suspect.ensures p.blob p.found in
     let n = c.in-Some-2.next in
