@@ -32,7 +32,6 @@ impl<M: Medium> Built<M> {
     pub fn into_memory(self) -> Vec<u8>
         ensures { result ≡ M.layout.memory self.medium }
     {
-        let Built { medium, catalog: _ } = self;
-        medium.into_memory()
+        self.medium.into_memory()
     }
 }

@@ -65,8 +65,7 @@ impl Medium for Parts {
     }
 
     fn into_memory(self) -> Vec<u8> {
-        let Parts { memory, each: _ } = self;
-        memory
+        self.memory
     }
 
     fn place(&self, table: &Table) -> usize {
