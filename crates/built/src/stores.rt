@@ -148,6 +148,7 @@ impl<M: Medium> Store for Built<M> {
         ensures calls { calls_left self.new.catalog ≡ how.calls }
         ensures memory { UntouchedBut (λ _. Unit {0}) self.old self.new }
     {
+        // By place: each row is settled together with the memory, which an iterator over the rows would not lend.
         for i in 0..self.catalog.table.count {
             self.settle(i, how);
         }

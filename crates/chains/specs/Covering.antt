@@ -3,7 +3,7 @@ use Rattle.std.specs.Prelude.{◌≡◌, ℕ, suc, ◌/◌, ◌<◌, ◌≤◌, 
 use Rattle.std.proofs.Common.{arith, sym, ap, ◌∙◌, subst, inl, inr, length-set}
 use Rattle.std.specs.List.{flat_map, insert, remove}
 use Rattle.std.proofs.lemmas.List.{get_or-set_same, get_or-set_other, take-set, drop-set-lt}
-use Rattle.std.proofs.lemmas.Bool.{cases_eq, cases_lt, lt-ltb, le-ltb}
+use Rattle.std.proofs.lemmas.Bool.{cases_eq, cases_lt, lt-ltb, le-ltb, lt-leb, le-leb}
 use Rattle.store.specs.Occurs.{occurs}
 use Rattle.store.proofs.Occurs.{occurs_append}
 use Rattle.catalog.specs.declared.row.Row.{Row}
@@ -16,7 +16,7 @@ use Rattle.sectors.proofs.Paths.{once_one}
 use Rattle.sectors.proofs.Pieces.{joined_same}
 use Rattle.sectors.proofs.Moves.{stands_same}
 use Rattle.sectors.proofs.Appends.{moved_written}
-use Rattle.chains.specs.Cover.{chain_of, Covers, Counted}
+use Rattle.chains.specs.Cover.{usable, chain_of, Covers, Counted}
 use Rattle.chains.specs.Totals.{total_at, total_two, total_set, total_inserted, total_removed}
 
 -- n sectors of the memory are in the chains of these rows and in the free chain
@@ -149,3 +149,14 @@ moved_none mem c f h = record { both = h; count = refl; same = λ p. refl; nexts
 -- bytes written into a chain move no sector
 pub moved_filled : (mem new : List ℕ) (c f : Chain) (at : ℕ) (bs : List ℕ) → length new ≡ length mem → Both mem c f → Filled mem c at bs new → Moved mem c f new c f
 moved_filled mem new c f at bs long h w = moved_written mem mem new c f c f at bs long (moved_none mem c f h) w
+
+-- as many sectors as are put to use lie in the memory
+pub usable_within : (m : ℕ) → usable m ≤ min m 65536
+usable_within m =
+    elim (cases_lt m 2) [
+      | inl a ↦ let t = lt-leb 2 m a in simp t (omega arith)
+      | inr a ↦ elim (cases_lt 65536 m) [
+        | inl b ↦ let t = le-leb 2 m a in let u = lt-leb m 65536 b in simp (t, u) (omega arith)
+        | inr b ↦ let t = le-leb 2 m a in let u = le-leb m 65536 b in simp (t, u) (omega arith)
+      ]
+    ]

@@ -20,7 +20,7 @@ pub(crate) fn chain_of(row: Row) -> Chain
     }
 }
 
-// The length of the blob in a row; a new one has none.
+// The length of the blob in a row; a new one has none. A match, since a closure for `map_or` would have to say which rows it takes.
 pub(crate) fn len_at(table: &Table, i: Option<usize>) -> usize
     requires { ForSome i (λ k. k < table.now.count) }
     ensures { result ≡ len_at table.now i }

@@ -107,6 +107,7 @@ impl<P, S, K> Log<P, S, K> {
     }
 
     // A log ends by what its store refused.
+    // A call matches what its store answered and has no `?`, since the store goes back with the fault.
     pub(crate) fn ended_by(self, e: StoreFault) -> Lost<S>
         ensures { result ≡ record { store = self.store; fault = InStore e } }
     {

@@ -40,7 +40,7 @@ impl<P, S: Store, K> Log<P, S, K> {
 }
 
 impl<K> StagedClear<K> {
-    // Carries the clear out.
+    // Carries the clear out. A refusal hands the store back: so a match, and no `?`.
     pub fn complete<S: Store>(self, mut store: S) -> Result<Trimmed<S, K>, Lost<S>>
         ensures { Completed S.view self (S.view store) result }
     {

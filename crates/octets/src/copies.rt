@@ -10,7 +10,8 @@ pub fn put_bytes(memory: &mut [u8], at: usize, bytes: &[u8])
     memory[at..end].copy_from_slice(bytes);
 }
 
-// Copies bytes into the memory, from `at` on.
+// Copies bytes into the memory, from `at` on. The three calls on a Vec stand beside those on a slice, since they say
+// that the Vec is as long as before; a slice is so by itself.
 pub fn write_at(memory: &mut Vec<u8>, at: usize, bytes: &[u8])
     requires { at + length bytes.now ≤ vec_len memory.old }
     ensures items { memory.new.items ≡ written memory.old.items at bytes.now }

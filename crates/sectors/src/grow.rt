@@ -6,6 +6,9 @@ ghost use Rattle.sectors.specs.Chains.{list, joint, Both, Moved};
 use crate::chain::Chain;
 use crate::link::{join, split};
 
+// A memory and its free chain are two fields of a store, lent side by side: a struct of two loans would be made and taken
+// apart at each call.
+
 // Takes k sectors from the front of the free chain.
 pub fn lengthen(memory: &mut [u8], free: &mut Chain, chain: Chain, k: usize) -> Chain
     requires { Both memory.old chain free.old × (k ≤ free.old.count) }

@@ -1,4 +1,5 @@
-// Bytes of a chain: its payloads, one after another.
+// Bytes of a chain: its payloads, one after another. The three loops go over the same sectors, and differ in which bytes they
+// lend to a sector: a closure for that would be longer than the loop.
 ghost use Rattle.std.specs.Prelude.{◌≡◌, ◌+◌, ◌*◌, ◌≤◌, length, take, drop, replicate};
 ghost use Rattle.sectors.specs.Sectors.{Apart};
 ghost use Rattle.sectors.specs.Chains.{list, joint, Filled};

@@ -1,8 +1,6 @@
-use Rattle.std.proofs.Common.{ℕ, List, length, take, drop, vec_items, ap, sym, ◌∙◌, zero-add, arith}
+use Rattle.std.proofs.Common.{vec_items, ap, arith}
 use Rattle.catalog.specs.Blobs.{row_at}
 use Rattle.sectors.specs.declared.chain.Chain.{Chain}
-use Rattle.sectors.specs.Chains.{joint}
-use Rattle.octets.proofs.Writes.{bytes_of}
 use Rattle.chains.specs.Cover.{chain_of}
 use Rattle.chains.specs.Contents.{both_at}
 use Rattle.chains.proofs.Across.{apart_as, alone}
@@ -21,16 +19,3 @@ read-requires c =
     let b = both_at m.sectors mem c.args.table.now m.free c.requires.holds c.args.i c.requires.within in
     let e = ap (λ (x : Chain). x.count) c.chain_of.ensures in
     (apart_as _ mem _ d c.as_slice.ensures.value c.chain_of.ensures (alone mem d m.free b), omega (arith, e, c.requires.fits), omega (arith, e, b.few))
-
-pub returns : goal.returns
-returns c =
-    let m = c.args.self.now in
-    let mem = vec_items m.memory in
-    let row = row_at c.args.table.now c.args.i in
-    let n = length c.args.out.now in
-    let at = c.args.at in
-    c.read.ensures
-    ∙ ap (λ (mem : List ℕ). take n (drop at (joint mem c.chain_of.result))) c.as_slice.ensures.value
-    ∙ ap (λ (x : Chain). take n (drop at (joint mem x))) c.chain_of.ensures
-    ∙ ap (λ j. take n (drop j (joint mem (chain_of row)))) (sym (zero-add at))
-    ∙ sym (bytes_of (joint mem (chain_of row)) 0 row.len at n c.requires.fits)
