@@ -1,20 +1,21 @@
 -- What is always so of a built store.
-use Rattle.std.proofs.Common.{◌≡◌, ℕ, ◌+◌, ◌<◌, ◌≤◌, true, false, leb, length, get_or, set, Some, None, Option, sym, refl, ap, ◌∙◌, arith}
-use Rattle.std.proofs.lemmas.Bool.{lt-leb}
+use Rattle.std.proofs.Common.{◌≡◌, ℕ, ◌+◌, ◌<◌, ◌≤◌, true, false, leb, length, get_or, take, drop, set, Some, None, Ok, Option, sym, refl, ap, ◌∙◌, arith}
+use Rattle.std.proofs.lemmas.Bool.{lt-leb, le-ltb}
+use Rattle.store.specs.Ask.{read_of}
 use Rattle.store.specs.Built.{bytes_there}
 use Rattle.store.specs.Disk.{Blob, find, change, numbers}
 use Rattle.store.proofs.Places.{change_here}
 use Rattle.catalog.specs.declared.table.Table.{Table}
 use Rattle.catalog.specs.Blobs as table
 use Rattle.catalog.specs.Found.{Here, FoundAt}
-use Rattle.catalog.specs.Seen.{Stands}
+use Rattle.catalog.specs.Seen.{Stands, is_up}
 use Rattle.catalog.proofs.Lookup.{many, here, length_blobs, numbers_blobs, blob_at_lem, number_at}
 use Rattle.catalog.proofs.Live.{length_live, number_live}
 use Rattle.built.specs.declared.medium.Medium.{Ghosts}
 use Rattle.built.specs.declared.built.Built.{Built}
 use Rattle.built.specs.Laws.{Laws}
 use Rattle.built.specs.Recast.{len_at}
-use Rattle.built.specs.Seen.{content_of, room_in, row_at, blob_in, blobs}
+use Rattle.built.specs.Seen.{content_of, room_in, row_at, blob_in, blobs, seen}
 
 -- a row in use is where its number is looked for
 pub here_at : (t : Table) (i : ℕ) → i < t.count → Here (table.row_at t i).number t i
@@ -46,6 +47,18 @@ module _ {S : Type 0} {M : Ghosts S} (w : Laws M.layout) (s : Built S M) where
       let t = there b i h in
       let r = ap (M.layout.limit s.medium) t in
       omega (arith, e, t, r)
+
+  -- a read that is answered
+  pub read_is : (b i at n : ℕ) → Here b s.catalog.table i → is_up s.catalog ≡ true → at + n ≤ (row_at s i).sound
+      → read_of (seen s) b at n ≡ Ok (take n (drop at (content_of s (row_at s i).place (row_at s i).len)))
+  read_is b i at n h u l =
+      let x = blob_in s (row_at s i) in
+      let g = long i h.within in
+      let k = h.sound_within in
+      let f = h.found (blob_in s) in
+      let p = le-ltb (length x.bytes) (at + n) (omega arith) in
+      let q = le-ltb x.sound (at + n) (omega arith) in
+      simp (u, f, p, q) refl
 
   pub within_limit : (i : ℕ) → i < s.catalog.table.count → (row_at s i).len ≤ M.layout.limit s.medium (row_at s i).len
   within_limit i l = let e = room_is (row_at s i).number i (here_at s.catalog.table i l) in omega (arith, e)

@@ -18,17 +18,7 @@ impl<M: Medium> Built<M> {
         let row = self.row(i);
         let sound = row.safe + (row.sound - row.safe).min(how.keep as usize);
         match how.past {
-            Past::Cut => self.rewrite(
-                i,
-                sound,
-                &[],
-                Row {
-                    len: sound,
-                    sound,
-                    safe: sound,
-                    ..row
-                },
-            ),
+            Past::Cut => self.rewrite(i, sound, &[], row.cut(sound)),
             Past::Fill(value) => {
                 self.medium.blot(&self.catalog.table, i, sound, value);
                 self.catalog.table.change(

@@ -10,7 +10,8 @@ use catalog::row::Row;
 use catalog::table::Table;
 use store::config::BadConfig;
 
-// A memory, and how it is cut among the rows of a table.
+// A memory, and how it is cut among the rows of a table. A row is named by its place in the table lent with it, since it is in use
+// only in the table of the moment.
 pub trait Medium: Drop {
     ghost layout: { Layout Self };
 
@@ -33,7 +34,7 @@ pub trait Medium: Drop {
         requires few { table.now.count < 64 }
         ensures { Comes layout self.now table.now result };
 
-    // How many bytes the blob of a row can come to have, or a new one.
+    // How many bytes the blob of a row can come to have; without a row, a new blob.
     fn limit(&self, table: &Table, i: Option<usize>) -> usize
         requires holds { layout.Holds self.now table.now }
         requires within { ForSome i (λ k. k < table.now.count) }

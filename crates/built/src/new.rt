@@ -17,7 +17,7 @@ impl<M: Medium> Built<M> {
         M::check(memory)
     }
 
-    // A new store, of which `calls` writing calls succeed before the power goes. An unfit memory does too.
+    // A new store, of which `calls` writing calls succeed before the power goes. Any memory is taken, fit or not.
     pub fn new(memory: Vec<u8>, calls: u64) -> Built<M>
         ensures fresh { New (seen result) }
         ensures laid { M.layout.Laid memory result.medium }

@@ -141,7 +141,7 @@ impl<M: Medium> Store for Built<M> {
         self.catalog.sync_keys()
     }
 
-    // The power is back. Of each blob as much stays as `how` says, and no piece of the memory outside the blobs and the free ones changes.
+    // The power is back. Of each blob as much stays as `how` says, and every piece of the memory that is neither in a blob nor free stays.
     fn restart(&mut self, how: Restart)
         ensures restarted { Restarted (seen self.old) (seen self.new) }
         ensures left { blobs self.new ≡ left how (blobs self.old) }

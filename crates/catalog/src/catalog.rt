@@ -6,7 +6,7 @@ ghost use Rattle.store.specs.Laws.{KeysFit};
 use crate::table::Table;
 use store::keys::Keys;
 
-// `power` is how many writing calls still succeed, or None when the power is gone: the next one after them loses it.
+// `power` is how many writing calls still succeed; the next one after them loses it, and then it is None.
 #[derive(Clone, Copy)]
 pub struct Catalog {
     pub table: Table,

@@ -27,7 +27,7 @@ impl Catalog {
         }
     }
 
-    // A writing call is done, and counted.
+    // A writing call is done, and counted. It answers Ok, so that a call can end in it.
     pub fn finish(&mut self) -> Result<(), Cause>
         requires { 0 < calls_left self.old }
         ensures done { result ≡ Ok tt }

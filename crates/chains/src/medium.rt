@@ -22,19 +22,7 @@ use store::config::BadConfig;
 fn in_use(n: usize) -> usize
     ensures { result ≡ usable n }
 {
-    if 2 <= n && n <= 65536 { n } else { 0 }
-}
-
-// All sectors but sector 0 in one chain.
-fn link(memory: &mut Vec<u8>, n: usize) -> Chain
-    requires { (64 * n ≤ vec_len memory.old) × (n ≤ 65536) }
-    ensures stands { Stands memory.new.items result }
-    ensures all { (p : ℕ) → occurs p (list memory.new.items result) ≡ once n p }
-    ensures count { result.count ≡ n - 1 }
-    ensures relinked { Relinked memory.old.items (list memory.new.items result) memory.new.items }
-    ensures long { vec_len memory.new ≡ vec_len memory.old }
-{
-    link_all(memory.as_mut_slice(), n)
+    if (2..=65536).contains(&n) { n } else { 0 }
 }
 
 impl Medium for Sectors {
@@ -45,10 +33,7 @@ impl Medium for Sectors {
     // A memory is fit if it has 2 to 65,536 sectors.
     fn check(memory: &Vec<u8>) -> Result<(), BadConfig> {
         let n = memory.len() / 64;
-        if n < 2 {
-            return Err(BadConfig);
-        }
-        if n > 65536 {
+        if !(2..=65536).contains(&n) {
             return Err(BadConfig);
         }
         Ok(())
@@ -57,7 +42,7 @@ impl Medium for Sectors {
     // On an unfit memory no blob has room. Only the next numbers of the sectors in use are written.
     fn lay_out(mut memory: Vec<u8>) -> (Sectors, Table) {
         let sectors = in_use(memory.len() / 64);
-        let free = link(&mut memory, sectors);
+        let free = link_all(memory.as_mut_slice(), sectors);
         let medium = Sectors {
             memory,
             sectors,
@@ -71,12 +56,7 @@ impl Medium for Sectors {
     }
 
     fn into_memory(self) -> Vec<u8> {
-        let Sectors {
-            memory,
-            sectors: _,
-            free: _,
-        } = self;
-        memory
+        self.memory
     }
 
     // A new blob has no sector.

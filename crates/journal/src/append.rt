@@ -78,7 +78,7 @@ impl<K: Record> Tail<K> {
     {
         let mut buffer = [0u8; 4096];
         let bytes = &mut buffer[..self.config.size as usize];
-        let _ = item.write(bytes);
+        item.write(bytes).unwrap();
         self.write_bytes(store, bytes)
     }
 }

@@ -57,7 +57,7 @@ pub enum Fault {
     Store(StoreFault),
 }
 
-// The number that it is known by.
+// The number that a fault is known by.
 impl From<Fault> for u8 {
     ghost from_gives = { λ f n. n ≡ number_of f };
 

@@ -1,4 +1,4 @@
-// The part of the journal that reopens a log.
+// The journal: a log is opened, read, cleared, appended to, synced and pruned.
 #![tactic(auto)]
 
 mod append;

@@ -49,7 +49,7 @@ pub struct Log<P, S, K> {
     pub(crate) kind: PhantomData<K>,
 }
 
-// Takes no records: it is trimmed first.
+// Takes no records: a trimmed log does.
 pub type Opened<S, K> = Log<Found, S, K>;
 
 pub type Trimmed<S, K> = Log<Clean, S, K>;
@@ -107,7 +107,6 @@ impl<P, S, K> Log<P, S, K> {
     }
 
     // A log ends by what its store refused.
-    // A call matches what its store answered and has no `?`, since the store goes back with the fault.
     pub(crate) fn ended_by(self, e: StoreFault) -> Lost<S>
         ensures { result ≡ record { store = self.store; fault = InStore e } }
     {

@@ -95,7 +95,8 @@ impl Scope {
             .ok_or(Fault::OffsetOverflow)
     }
 
-    // The watermark is weighed against the size that the walk found, and whether there are blobs beyond.
+    // The watermark is weighed against the size that the walk found, and whether there are blobs beyond. The walk's answer is a pair,
+    // as in the Rust journal.
     #[tactic(auto, using(crate::proofs::Starting::weigh_gap))]
     pub fn weigh(self, mark: Option<u64>, walked: (u64, bool)) -> Result<Held, Fault>
         ensures { Settles (weigh (ruled self.config) self.start self.ceiling (edge_at (ruled self.config) self.start self.ceiling) mark (stands walked.0 walked.1)) result }

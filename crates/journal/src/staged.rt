@@ -25,6 +25,7 @@ impl<P, S: Store, K> Log<P, S, K> {
         if target == u64::MAX {
             return Err(Stop::Refused(self, Fault::SizeOverflow));
         }
+        // No `?`: the fault goes back with the store, which `self` holds.
         match checkpoint::stage_clear(&mut self.store, target) {
             Ok(()) => {
                 let clear = StagedClear {

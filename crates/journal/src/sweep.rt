@@ -9,6 +9,7 @@ use crate::fault::StoreFault;
 use crate::steps;
 use store::store::Store;
 
+// The next number is asked for by hand: each question may be refused, so it is no iterator.
 pub fn sync_all<S: Store>(store: &mut S) -> Result<(), StoreFault>
     ensures { Asks (map Sync (numbers (S.view store.old).disk.blobs)) (S.view store.old) result (S.view store.new) }
 {

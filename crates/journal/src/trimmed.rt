@@ -38,6 +38,7 @@ impl<S: Store, K> Trimmed<S, K> {
         ensures { Synced S.view self result }
     {
         let Held { start, end, .. } = self.held;
+        // No `?`: the fault goes back with the store, which `self` holds.
         match sync_and_persist(&mut self.store, self.config, start, end) {
             Ok(()) => {
                 self.held = Held {
@@ -61,6 +62,7 @@ impl<S: Store, K> Trimmed<S, K> {
         if first <= self.held.start {
             return Ok((self, false));
         }
+        // No `?`: the fault goes back with the store, which `self` holds.
         match prune_to(&mut self.store, b) {
             Ok(()) => {
                 self.held = Held {
@@ -93,6 +95,7 @@ impl<S: Store, K: Record> Trimmed<S, K> {
             end,
             kind: PhantomData,
         };
+        // No `?`: the fault goes back with the store, which `self` holds.
         match tail.write(&mut self.store, item) {
             Ok(()) => {
                 self.held = Held {

@@ -11,7 +11,7 @@ use crate::scope::Scope;
 use crate::steps;
 use store::store::Store;
 
-// The size with a blob's records counted on: a full blob's, or one's that ends the walk.
+// The size with a blob's records added: the blob is full and the walk goes on, or it is short and ends it.
 pub enum Filled {
     Full(u64),
     Short(u64),
@@ -23,7 +23,7 @@ fn fill<S: Store>(live: &Live<S>, scope: Scope, size: u64, b: u64) -> Result<Fil
     let records = scope.config.records;
     let len = steps::len(live.store, b)? / scope.config.size;
     let before = scope.start.saturating_sub(b.saturating_mul(records));
-    let capacity = records - records.min(before);
+    let capacity = records.saturating_sub(before);
     if len > capacity {
         return Err(Fault::Corruption(Corrupt::Overfull));
     }
@@ -36,7 +36,7 @@ fn fill<S: Store>(live: &Live<S>, scope: Scope, size: u64, b: u64) -> Result<Fil
 }
 
 // From a blob on, up to the first that is missing or short: the size, and whether there are blobs beyond.
-// The pair and the loop that yields it by break are the original's.
+// The pair, and the loop that yields it by `break`, are as in the Rust journal of which this is a port.
 fn walk_from<S: Store>(live: &Live<S>, scope: Scope, lowest: u64) -> Result<(u64, bool), Fault>
     ensures { Walks (walk (ruled scope.config) scope.start scope.start lowest (rest lowest (below (edge_at (ruled scope.config) scope.start scope.ceiling) (S.view live.now.store.now).disk.blobs))) result }
 {
@@ -62,6 +62,7 @@ fn walk_from<S: Store>(live: &Live<S>, scope: Scope, lowest: u64) -> Result<(u64
     Ok((size, gap))
 }
 
+// The walk's answer is a pair, as in the Rust journal.
 pub fn recover_by_walking_lengths<S: Store>(
     live: &Live<S>,
     scope: Scope,

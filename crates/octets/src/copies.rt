@@ -10,7 +10,7 @@ pub fn put_bytes(memory: &mut [u8], at: usize, bytes: &[u8])
     memory[at..end].copy_from_slice(bytes);
 }
 
-// Copies bytes into the memory, from `at` on. The three calls on a Vec stand beside those on a slice, since they say
+// Copies bytes into the memory, from `at` on. This and `fill_at` stand beside the same calls on a slice, since they say
 // that the Vec is as long as before; a slice is so by itself.
 pub fn write_at(memory: &mut Vec<u8>, at: usize, bytes: &[u8])
     requires { at + length bytes.now ≤ vec_len memory.old }
@@ -21,12 +21,12 @@ pub fn write_at(memory: &mut Vec<u8>, at: usize, bytes: &[u8])
 }
 
 // Copies bytes out of the memory, from `at` on.
-pub fn read_at(memory: &Vec<u8>, at: usize, out: &mut [u8])
-    requires { at + length out.old ≤ vec_len memory.now }
-    ensures { out.new ≡ take (length out.old) (drop at memory.now.items) }
+pub fn read_at(memory: &[u8], at: usize, out: &mut [u8])
+    requires { at + length out.old ≤ length memory.now }
+    ensures { out.new ≡ take (length out.old) (drop at memory.now) }
 {
     let end = at + out.len();
-    out.copy_from_slice(&memory.as_slice()[at..end]);
+    out.copy_from_slice(&memory[at..end]);
 }
 
 fn put_fill(memory: &mut [u8], at: usize, n: usize, value: u8)

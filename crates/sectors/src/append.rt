@@ -1,4 +1,4 @@
-// Bytes added at the end of a chain.
+// Bytes added at the end of a chain, or put in the place of its last ones.
 ghost use Rattle.std.specs.Prelude.{◌≡◌, ◌+◌, ◌-◌, ◌*◌, ◌<◌, ◌≤◌, ◌++◌, length, take};
 ghost use Rattle.sectors.specs.Sectors.{need, next_of, after, Apart};
 ghost use Rattle.sectors.specs.Chains.{list, joint, Both, Moved, Filled};
@@ -12,7 +12,7 @@ pub fn needed(n: usize) -> usize
     requires { n ≤ 60 * 65536 }
     ensures { result ≡ need n }
 {
-    (n + 59) / 60
+    n.div_ceil(60)
 }
 
 // Writes into a chain from its sector k on, which is s: those before it are not walked.

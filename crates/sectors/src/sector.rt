@@ -14,6 +14,7 @@ pub fn parts(memory: &[u8], s: usize) -> (usize, &[u8])
 {
     let at = 64 * s;
     let sector = &memory[at..at + 64];
+    // Four named bytes and the rest; a sector has 64 bytes, so the else is never taken.
     let [a, b, c, d, payload @ ..] = sector else {
         return (0, sector);
     };

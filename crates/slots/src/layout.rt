@@ -77,7 +77,7 @@ impl Medium for Parts {
     }
 
     fn read(&self, table: &Table, i: usize, at: usize, out: &mut [u8]) {
-        read_at(&self.memory, self.start(table, i) + at, out);
+        read_at(self.memory.as_slice(), self.start(table, i) + at, out);
     }
 
     // A blob never leaves its part.

@@ -11,7 +11,7 @@ pub enum Key {
     Watermark,
 }
 
-#[derive(Clone, Copy, PartialEq, Eq, Debug)]
+#[derive(Clone, Copy, Default, PartialEq, Eq, Debug)]
 pub struct Keys {
     pub hint: Option<u64>,
     pub target: Option<u64>,
@@ -22,11 +22,7 @@ impl Keys {
     pub fn none() -> Keys
         ensures { result ≡ no_keys }
     {
-        Keys {
-            hint: None,
-            target: None,
-            watermark: None,
-        }
+        Keys::default()
     }
 
     pub fn get(self, k: Key) -> Option<u64>

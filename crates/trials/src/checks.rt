@@ -93,57 +93,49 @@ fn keys<S: Store>(s: &mut S) -> Result<(), Fail> {
 #[test]
 fn chains_blobs(rt: HostRuntime) -> Result<(), Fail> {
     let mut s = Chains::new(vec![in rt.alloc(); 0u8; 128]?, 100);
-    blobs(&mut s, 60)?;
-    Ok(())
+    blobs(&mut s, 60)
 }
 
 #[test]
 fn slots_blobs(rt: HostRuntime) -> Result<(), Fail> {
     let mut s = Slots::new(vec![in rt.alloc(); 0u8; 640]?, 100);
-    blobs(&mut s, 10)?;
-    Ok(())
+    blobs(&mut s, 10)
 }
 
 #[test]
 fn chains_listing(rt: HostRuntime) -> Result<(), Fail> {
     let mut s = Chains::new(vec![in rt.alloc(); 0u8; 256]?, 100);
-    listing(&mut s)?;
-    Ok(())
+    listing(&mut s)
 }
 
 #[test]
 fn slots_listing(rt: HostRuntime) -> Result<(), Fail> {
     let mut s = Slots::new(vec![in rt.alloc(); 0u8; 640]?, 100);
-    listing(&mut s)?;
-    Ok(())
+    listing(&mut s)
 }
 
 #[test]
 fn chains_reading(rt: HostRuntime) -> Result<(), Fail> {
     let mut s = Chains::new(vec![in rt.alloc(); 0u8; 256]?, 100);
-    reading(&mut s)?;
-    Ok(())
+    reading(&mut s)
 }
 
 #[test]
 fn slots_reading(rt: HostRuntime) -> Result<(), Fail> {
     let mut s = Slots::new(vec![in rt.alloc(); 0u8; 640]?, 100);
-    reading(&mut s)?;
-    Ok(())
+    reading(&mut s)
 }
 
 #[test]
 fn chains_keys(rt: HostRuntime) -> Result<(), Fail> {
     let mut s = Chains::new(vec![in rt.alloc(); 0u8; 256]?, 5);
-    keys(&mut s)?;
-    Ok(())
+    keys(&mut s)
 }
 
 #[test]
 fn slots_keys(rt: HostRuntime) -> Result<(), Fail> {
     let mut s = Slots::new(vec![in rt.alloc(); 0u8; 640]?, 5);
-    keys(&mut s)?;
-    Ok(())
+    keys(&mut s)
 }
 
 // Memory under 64 bytes is refused; on it all the same, no blob has room.
