@@ -1,4 +1,4 @@
-// What a restart leaves.
+//! What a restart leaves.
 ghost use Rattle.std.specs.Prelude.{◌≡◌, ◌<◌};
 ghost use Rattle.store.specs.Left.{left_of};
 ghost use Rattle.built.specs.Seen.{row_at, blob_in};

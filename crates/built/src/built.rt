@@ -1,4 +1,4 @@
-// The built store: a memory that it owns, and a catalog.
+//! The built store: a memory that it owns, and a catalog.
 
 use crate::medium::Medium;
 use catalog::catalog::Catalog;

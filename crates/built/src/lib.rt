@@ -1,4 +1,4 @@
-// A built store: the table, the keys and the power of a catalog, over any memory that holds the bytes of its blobs.
+//! A built store: the table, the keys and the power of a catalog, over any memory that holds the bytes of its blobs.
 #![tactic(auto)]
 
 pub mod again;

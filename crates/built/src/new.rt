@@ -1,4 +1,4 @@
-// A memory checked, a new store on it, and the memory handed back.
+//! A memory checked, a new store on it, and the memory handed back.
 ghost use Rattle.std.specs.Prelude.{◌≡◌, [], MatchResult};
 ghost use Rattle.store.specs.Disk.{New};
 ghost use Rattle.catalog.specs.Seen.{calls_left};
@@ -10,14 +10,14 @@ use catalog::catalog::Catalog;
 use store::config::BadConfig;
 
 impl<M: Medium> Built<M> {
-    // Tells whether a memory is fit.
+    /// Tells whether a memory is fit.
     pub fn check(memory: &Vec<u8>) -> Result<(), BadConfig>
         ensures { MatchResult result (λ _. M.layout.Fit memory.now) (λ _. M.layout.Fit memory.now → ⊥) }
     {
         M::check(memory)
     }
 
-    // A new store, of which `calls` writing calls succeed before the power goes. Any memory is taken, fit or not.
+    /// A new store, of which `calls` writing calls succeed before the power goes. Any memory is taken, fit or not.
     pub fn new(memory: Vec<u8>, calls: u64) -> Built<M>
         ensures fresh { New (seen result) }
         ensures laid { M.layout.Laid memory result.medium }

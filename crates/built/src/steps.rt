@@ -1,4 +1,4 @@
-// The steps that calls share.
+//! The steps that calls share.
 ghost use Rattle.std.specs.Prelude.{◌≡◌, ◌+◌, ◌^◌, ◌<◌, ◌≤◌, [], ◌++◌, length, take};
 ghost use Rattle.store.specs.Disk.{Blob};
 ghost use Rattle.catalog.specs.Rows.{Ordered};

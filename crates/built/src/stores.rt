@@ -1,4 +1,4 @@
-// The built store is a store. Each writing call sees first to the power, then to the other causes, and then writes.
+//! The built store is a store. Each writing call sees first to the power, then to the other causes, and then writes.
 ghost use Rattle.std.specs.Prelude.{◌≡◌, ℕ};
 ghost use Rattle.store.specs.Disk.{Restarted, Open, Append, Truncate, Sync, Remove, Put, DropKey, SyncKeys};
 ghost use Rattle.store.specs.Left.{left};

@@ -1,4 +1,4 @@
-// What every built store keeps beside its memory: the table, the keys, and the power.
+//! What every built store keeps beside its memory: the table, the keys, and the power.
 ghost use Rattle.std.specs.Prelude.{◌≡◌, Some};
 ghost use Rattle.store.specs.Disk.{no_keys};
 ghost use Rattle.store.specs.Laws.{KeysFit};
@@ -6,7 +6,7 @@ ghost use Rattle.store.specs.Laws.{KeysFit};
 use crate::table::Table;
 use store::keys::Keys;
 
-// `power` is how many writing calls still succeed; the next one after them loses it, and then it is None.
+/// `power` is how many writing calls still succeed; the next one after them loses it, and then it is None.
 #[derive(Clone, Copy)]
 pub struct Catalog {
     pub table: Table,
@@ -18,7 +18,7 @@ pub struct Catalog {
 }
 
 impl Catalog {
-    // No key, and the power on for so many writing calls.
+    /// No key, and the power on for so many writing calls.
     pub fn new(table: Table, calls: u64) -> Catalog
         ensures table { result.table ≡ table }
         ensures present { result.present ≡ no_keys }

@@ -1,4 +1,4 @@
-// A row changed, a row more, and a row less.
+//! A row changed, a row more, and a row less.
 ghost use Rattle.std.specs.Prelude.{◌≡◌, ℕ, suc, ◌+◌, ◌-◌, ◌<◌, ◌≤◌, ◌∷◌, ◌++◌, length, take, drop, ◌≢◌, slice_set};
 ghost use Rattle.std.specs.List.{insert, remove};
 ghost use Rattle.store.specs.Place.{Sought};
@@ -18,7 +18,7 @@ fn shift_in(rows: &mut [Row], row: Row)
 }
 
 impl Table {
-    // Changes a row in use, but for its number.
+    /// Changes a row in use, but for its number.
     pub fn change(&mut self, i: usize, row: Row)
         requires within { i < self.old.count }
         requires same { row.number ≡ (row_at self.old i).number }
@@ -29,7 +29,7 @@ impl Table {
         self.rows[i] = row;
     }
 
-    // A row for a new blob, at its place i among the rows in use. The first free row is overwritten.
+    /// A row for a new blob, at its place i among the rows in use. The first free row is overwritten.
     pub fn insert(&mut self, i: usize, b: u64, place: usize)
         requires few { self.old.count < 64 }
         requires within { i ≤ self.old.count }
@@ -53,7 +53,7 @@ impl Table {
         self.count = end;
     }
 
-    // The row at i becomes the first free row.
+    /// The row at i becomes the first free row.
     pub fn remove(&mut self, i: usize)
         requires { i < self.old.count }
         ensures count { self.new.count ≡ self.old.count - 1 }

@@ -1,4 +1,4 @@
-// Rows by number. What is found is said of the blobs of any store: g says what blob a row stands for.
+//! Rows by number. What is found is said of the blobs of any store: g says what blob a row stands for.
 ghost use Rattle.std.specs.Prelude.{◌≡◌, ◌≤◌};
 ghost use Rattle.store.specs.Disk.{Blob, at_or_above, at_or_below};
 ghost use Rattle.store.specs.Place.{Sought};
@@ -18,7 +18,7 @@ impl Table {
         &self.rows[..self.count]
     }
 
-    // The first place whose number is not below b.
+    /// The first place whose number is not below b.
     pub fn seek(&self, b: u64) -> usize
         ensures within { result ≤ self.now.count }
         ensures place { Sought b (numbers_of (live self.now)) result }
@@ -26,7 +26,7 @@ impl Table {
         self.live().partition_point(|row| row.number < b)
     }
 
-    // The place of the blob with this number.
+    /// The place of the blob with this number.
     pub fn find(&self, b: u64) -> Option<usize>
         ensures { FoundAt b self.now result }
     {
@@ -35,7 +35,7 @@ impl Table {
         (row.number == b).then_some(i)
     }
 
-    // The lowest number at or above b.
+    /// The lowest number at or above b.
     pub fn above(&self, b: u64) -> Option<u64>
         ensures { (g : ARow → Blob) → result ≡ at_or_above b (blobs_by g self.now) }
     {
@@ -43,7 +43,7 @@ impl Table {
         Some(row.number)
     }
 
-    // The highest number at or below b: that of the last row which is not above b.
+    /// The highest number at or below b: that of the last row which is not above b.
     pub fn below(&self, b: u64) -> Option<u64>
         ensures { (g : ARow → Blob) → result ≡ at_or_below b (blobs_by g self.now) }
     {

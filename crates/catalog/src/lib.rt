@@ -1,4 +1,4 @@
-// What the built stores share: the table of 64 blob rows, the keys and the power, and the calls that need no more than these.
+//! What the built stores share: the table of 64 blob rows, the keys and the power, and the calls that need no more than these.
 #![tactic(auto)]
 
 pub mod ask;

@@ -1,4 +1,4 @@
-// The power: a question needs it, and a writing call sees to it before anything is written.
+//! The power: a question needs it, and a writing call sees to it before anything is written.
 ghost use Rattle.std.specs.Prelude.{◌≡◌, ◌<◌, true, false, Ok, MatchResult};
 ghost use Rattle.store.specs.declared.cause.Cause.TheVariants.{Power};
 ghost use Rattle.catalog.specs.Seen.{is_up, calls_left, Begun, OneFewer, Revived};
@@ -7,14 +7,14 @@ use crate::catalog::Catalog;
 use store::cause::Cause;
 
 impl Catalog {
-    // A question is answered while the power is on.
+    /// A question is answered while the power is on.
     pub fn ask(&self) -> Result<(), Cause>
         ensures { MatchResult result (λ _. is_up self.now ≡ true) (λ c. (c ≡ Power) × (is_up self.now ≡ false)) }
     {
         self.power.map(|_| ()).ok_or(Cause::Power)
     }
 
-    // A writing call begins. With no call left the power goes, and the store is down.
+    /// A writing call begins. With no call left the power goes, and the store is down.
     pub fn begin(&mut self) -> Result<(), Cause>
         ensures { Begun self.old result self.new }
     {
@@ -27,7 +27,7 @@ impl Catalog {
         }
     }
 
-    // A writing call is done, and counted. It answers Ok, so that a call can end in it.
+    /// A writing call is done, and counted. It answers Ok, so that a call can end in it.
     pub fn finish(&mut self) -> Result<(), Cause>
         requires { 0 < calls_left self.old }
         ensures done { result ≡ Ok tt }
@@ -37,7 +37,7 @@ impl Catalog {
         Ok(())
     }
 
-    // The power is back: the saved keys are present, and a new number of calls is given.
+    /// The power is back: the saved keys are present, and a new number of calls is given.
     pub fn revive(&mut self, calls: u64)
         ensures { Revived self.old calls self.new }
     {

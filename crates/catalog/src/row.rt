@@ -1,8 +1,8 @@
-// One blob: its number, where its bytes begin and end, and its lengths.
+//! One blob: its number, where its bytes begin and end, and its lengths.
 ghost use Rattle.std.specs.Prelude.{◌≡◌, ◌+◌, ◌^◌, ◌<◌};
 ghost use Rattle.catalog.specs.Rows.{grown_row, cut_row, synced_row};
 
-// `place` is where the bytes begin, a part or a first sector, and `tail` the last sector of a chain.
+/// `place` is where the bytes begin, a part or a first sector, and `tail` the last sector of a chain.
 #[derive(Clone, Copy, Default)]
 pub struct Row {
     pub number: u64,
@@ -14,7 +14,7 @@ pub struct Row {
 }
 
 impl Row {
-    // n bytes more: they are sound if all before them are.
+    /// n bytes more: they are sound if all before them are.
     pub fn grown(self, n: usize) -> Row
         requires { self.len + n < 2 ^ 64 }
         ensures { result ≡ grown_row n self }
@@ -31,7 +31,7 @@ impl Row {
         }
     }
 
-    // The first n bytes, the sound ones of them safe.
+    /// The first n bytes, the sound ones of them safe.
     pub fn cut(self, n: usize) -> Row
         ensures { result ≡ cut_row n self }
     {
@@ -44,7 +44,7 @@ impl Row {
         }
     }
 
-    // Every sound byte is safe.
+    /// Every sound byte is safe.
     pub fn synced(self) -> Row
         ensures { result ≡ synced_row self }
     {

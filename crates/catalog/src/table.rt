@@ -1,5 +1,5 @@
-// The first `count` rows are the blobs, by rising number. Of the other rows nothing is said: a store may keep free places there.
-// An array with its count, since a store has no heap but the memory that it owns.
+//! The first `count` rows are the blobs, by rising number. Of the other rows nothing is said: a store may keep free places there.
+//! An array with its count, since a store has no heap but the memory that it owns.
 ghost use Rattle.std.specs.Prelude.{◌≡◌, ◌^◌, ◌≤◌, length, take};
 ghost use Rattle.store.specs.Laws.{Rising, Below};
 ghost use Rattle.catalog.specs.Rows.{numbers_of, Ordered, Each};

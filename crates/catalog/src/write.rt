@@ -1,4 +1,4 @@
-// The writing calls that leave every byte where it is. Each sees first to the power, then to the other causes.
+//! The writing calls that leave every byte where it is. Each sees first to the power, then to the other causes.
 ghost use Rattle.std.specs.Prelude.{◌≡◌};
 ghost use Rattle.store.specs.Disk.{Sync, Put, DropKey, SyncKeys};
 ghost use Rattle.catalog.specs.Blobs.{SameRows};
@@ -47,7 +47,7 @@ impl Catalog {
         self.finish()
     }
 
-    // Sets a key as it is present and as it is saved, up or down, and counts no call.
+    /// Sets a key as it is present and as it is saved, up or down, and counts no call.
     pub fn set_key(&mut self, k: Key, present: Option<u64>, saved: Option<u64>)
         ensures { KeySet self.old k present saved self.new }
     {

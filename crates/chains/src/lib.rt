@@ -1,4 +1,4 @@
-// A store of sectors of 64 bytes in chains.
+//! A store of sectors of 64 bytes in chains.
 #![tactic(auto)]
 
 pub mod chains;

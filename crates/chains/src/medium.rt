@@ -1,4 +1,4 @@
-// The sectors hold the bytes of a built store.
+//! The sectors hold the bytes of a built store.
 ghost use Rattle.std.specs.Prelude.{◌≡◌, ℕ, ◌-◌, ◌*◌, ◌/◌, ◌≤◌, vec_len};
 ghost use Rattle.store.specs.Occurs.{occurs};
 ghost use Rattle.sectors.specs.Chains.{list, Stands, Relinked};

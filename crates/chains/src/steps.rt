@@ -1,4 +1,4 @@
-// A row's chain, and its length.
+//! A row's chain, and its length.
 ghost use Rattle.std.specs.Prelude.{◌≡◌, ◌*◌, ◌<◌, ◌≤◌};
 ghost use Rattle.std.specs.Option.{ForSome};
 ghost use Rattle.built.specs.Recast.{len_at};

@@ -1,4 +1,4 @@
-// One record is appended.
+//! One record is appended.
 ghost use Rattle.std.specs.Prelude.{◌≡◌, ◌+◌, ◌<◌, [], ◌∷◌, ◌++◌, if◌then◌else◌};
 ghost use Rattle.store.specs.Disk.{Sync, numbers};
 ghost use Rattle.rules.specs.Rules.{MAX, aligned, blob_of};
@@ -14,7 +14,7 @@ use record::record::Record;
 use std::marker::PhantomData;
 use store::store::Store;
 
-// Where a record of the kind K goes: there is a position, and the log is one of records as large.
+/// Where a record of the kind K goes: there is a position, and the log is one of records as large.
 #[derive(Drop)]
 pub struct Tail<K: Record> {
     pub config: Config,
@@ -72,7 +72,7 @@ impl<K: Record> Tail<K> {
         self.add_bytes(store, bytes)
     }
 
-    // Through bytes on the stack, as many as a record has, since the journal uses no heap.
+    /// Through bytes on the stack, as many as a record has, since the journal uses no heap.
     pub fn write<S: Store>(&self, store: &mut S, item: K) -> Result<(), StoreFault>
         ensures { Asks (open_if (has (blob_of (ruled self.now.config) self.now.end) (numbers (S.view store.old).disk.blobs)) (blob_of (ruled self.now.config) self.now.end) ++ adding (ruled self.now.config) self.now.end (K.encode item)) (S.view store.old) result (S.view store.new) }
     {

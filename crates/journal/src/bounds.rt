@@ -1,4 +1,4 @@
-// Where a log starts.
+//! Where a log starts.
 ghost use Rattle.journal.specs.Configs.{ruled};
 ghost use Rattle.journal.specs.Recovery.{First, Starts};
 
@@ -6,7 +6,7 @@ use crate::config::Config;
 use crate::fault::{Corrupt, Fault};
 use std::cmp::Ordering;
 
-// A blob's first position, or 0 where there is no blob.
+/// A blob's first position, or 0 where there is no blob. Here one that does not fit is refused; the rules let others saturate.
 pub fn first_position(config: Config, blob: Option<u64>) -> Result<u64, Fault>
     ensures { First (ruled config) blob result }
 {
@@ -15,7 +15,7 @@ pub fn first_position(config: Config, blob: Option<u64>) -> Result<u64, Fault>
         .ok_or(Fault::OffsetOverflow)
 }
 
-// A hint inside the lowest blob is the start, and a lower one is ignored.
+/// A hint inside the lowest blob is the start, and a lower one is ignored.
 #[tactic(auto, using(crate::proofs::Starting::start_over))]
 pub fn recover_pruning_boundary(
     config: Config,

@@ -1,4 +1,4 @@
-// The keys that recovery reads before it trusts the blobs: the boundary, the clear target and the watermark.
+//! The keys that recovery reads before it trusts the blobs: the boundary, the clear target and the watermark.
 ghost use Rattle.std.specs.Prelude.{[], ◌∷◌, if◌then◌else◌};
 ghost use Rattle.store.specs.Disk.{Put, DropKey, SyncKeys};
 ghost use Rattle.rules.specs.Rules.{aligned, is_above, staging};

@@ -1,4 +1,4 @@
-// A staged clear is carried out: every blob goes, the target's blob is made, and the keys say so.
+//! A staged clear is carried out: every blob goes, the target's blob is made, and the keys say so.
 ghost use Rattle.std.specs.Prelude.{◌∷◌};
 ghost use Rattle.store.specs.Disk.{Open, DropKey, numbers};
 ghost use Rattle.store.specs.declared.keys.Key.TheVariants.{Target};

@@ -1,10 +1,10 @@
-// What a log is configured with, and where its positions are.
+//! What a log is configured with, and where its positions are.
 ghost use Rattle.std.specs.Prelude.{◌≡◌, ◌-◌, ◌*◌, ◌<◌, ◌≤◌, min};
 
 use record::record::Record;
 use store::config::BadConfig;
 
-// Records to a blob, the page, and a record's bytes: none is zero, and a record has at most 4,096 bytes.
+/// Records to a blob, the page, and a record's bytes: none is zero, and a record has at most 4,096 bytes.
 #[derive(Clone, Copy)]
 pub struct Config {
     pub(crate) records: u64,
@@ -18,7 +18,7 @@ impl Config {
     ghost use Rattle.rules.specs.Open.{round_up};
     ghost use Rattle.journal.specs.Configs.{Checked, ruled};
 
-    // For records of the kind K.
+    /// For records of the kind K.
     pub fn new<K: Record>(records: u64, page: u16) -> Result<Config, BadConfig>
         ensures { Checked (record { n = records; page = page; z = K.Record.size }) result }
     {

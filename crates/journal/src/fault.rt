@@ -1,4 +1,4 @@
-// What a call of the log is refused for, or stopped by.
+//! What a call of the log is refused for, or stopped by.
 ghost use Rattle.std.specs.Prelude.{◌≡◌};
 ghost use Rattle.journal.specs.Faults.{number_of};
 ghost use Rattle.journal.specs.declared.fault.Fault.TheVariants.{Store as InStore};
@@ -6,7 +6,7 @@ ghost use Rattle.journal.specs.declared.fault.Fault.TheVariants.{Store as InStor
 use store::cause::Cause;
 use store::keys::Key;
 
-// The store call that was refused, with its blob or its key.
+/// The store call that was refused, with its blob or its key.
 #[derive(Clone, Copy, PartialEq, Eq, Debug)]
 pub enum Step {
     Open(u64),
@@ -30,7 +30,7 @@ pub struct StoreFault {
     pub step: Step,
 }
 
-// How a store contradicts itself.
+/// How a store contradicts itself.
 #[derive(Clone, Copy, PartialEq, Eq, Debug)]
 pub enum Corrupt {
     HintNewer,

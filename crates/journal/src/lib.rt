@@ -1,4 +1,4 @@
-// The journal: a log is opened, read, cleared, appended to, synced and pruned.
+//! The journal: a log is opened, read, cleared, appended to, synced and pruned.
 #![tactic(auto)]
 
 mod append;

@@ -1,4 +1,4 @@
-// The log of a store, and how a call of it ends.
+//! The log of a store, and how a call of it ends.
 ghost use Rattle.std.specs.Prelude.{◌≡◌};
 ghost use Rattle.journal.specs.declared.fault.Fault.TheVariants.{Store as InStore};
 ghost use Rattle.journal.specs.declared.log.Stop.TheVariants.{Ended};
@@ -8,8 +8,8 @@ use crate::config::Config;
 use crate::fault::{Fault, StoreFault};
 use std::marker::PhantomData;
 
-// Positions from start to end, of which those below mark are acknowledged. Blobs from edge on are set aside.
-// A log that was opened under a ceiling stays bounded when none is set aside any more: edge does not tell it.
+/// Positions from start to end, of which those below mark are acknowledged. Blobs from edge on are set aside.
+/// A log that was opened under a ceiling stays bounded when none is set aside any more: edge does not tell it.
 #[derive(Clone, Copy)]
 pub struct Held {
     pub(crate) start: u64,
@@ -34,13 +34,13 @@ impl Held {
     }
 }
 
-// The state of a log as it was found: its store may have more than the log has positions for.
+/// The state of a log as it was found: its store may have more than the log has positions for.
 pub struct Found;
 
-// The state of a log with nothing above its end.
+/// The state of a log with nothing above its end.
 pub struct Clean;
 
-// Records of the kind K in a store. The state P says what may be called.
+/// Records of the kind K in a store. The state P says what may be called.
 pub struct Log<P, S, K> {
     pub(crate) store: S,
     pub(crate) config: Config,
@@ -49,18 +49,18 @@ pub struct Log<P, S, K> {
     pub(crate) kind: PhantomData<K>,
 }
 
-// Takes no records: a trimmed log does.
+/// Takes no records: a trimmed log does.
 pub type Opened<S, K> = Log<Found, S, K>;
 
 pub type Trimmed<S, K> = Log<Clean, S, K>;
 
-// A refused call hands the log back as it was, and one that ends it the store.
+/// A refused call hands the log back as it was, and one that ends it the store.
 pub enum Stop<L, S> {
     Refused(L, Fault),
     Ended(S, Fault),
 }
 
-// The store of a log that has ended.
+/// The store of a log that has ended.
 pub struct Lost<S> {
     pub(crate) store: S,
     pub(crate) fault: Fault,
@@ -85,14 +85,14 @@ impl<L, S> From<Lost<S>> for Stop<L, S> {
 }
 
 impl<P, S, K> Log<P, S, K> {
-    // Its first position, and the one after its last.
+    /// Its first position, and the one after its last.
     pub fn span(&self) -> (u64, u64)
         ensures { (result.0 ≡ self.now.held.start) × (result.1 ≡ self.now.held.end) }
     {
         (self.held.start, self.held.end)
     }
 
-    // The log is let go, and its store handed back.
+    /// The log is let go, and its store handed back.
     pub fn into_store(self) -> S
         ensures { result ≡ self.store }
     {

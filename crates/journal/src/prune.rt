@@ -1,4 +1,4 @@
-// Blobs below a number go, once all are synced.
+//! Blobs below a number go, once all are synced.
 ghost use Rattle.std.specs.Prelude.{◌∷◌, ◌++◌, map};
 ghost use Rattle.store.specs.Disk.{Open, Remove, Sync, insert, numbers};
 ghost use Rattle.rules.specs.Calls.{up_to};

@@ -1,4 +1,4 @@
-// Reads of a log. They change nothing.
+//! Reads of a log. They change nothing.
 ghost use Rattle.std.specs.Prelude.{[], ◌∷◌};
 ghost use Rattle.rules.specs.Reads.{reading};
 ghost use Rattle.rules.specs.Reads.{read_rule as rule_of_read};
@@ -29,7 +29,7 @@ fn read_record<S: Store, K: Record>(
 }
 
 impl<P, S: Store, K: Record> Log<P, S, K> {
-    // A position outside the log is refused first.
+    /// A position outside the log is refused first.
     pub fn read(&self, position: u64) -> Result<K, Fault>
         ensures { ReadOne (rule_of_read K.decode (ruled self.now.config) self.now.held.start self.now.held.end (S.view self.now.store) position) result }
     {

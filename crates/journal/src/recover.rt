@@ -1,4 +1,4 @@
-// Recovery: what a store is found to hold.
+//! Recovery: what a store is found to hold.
 ghost use Rattle.rules.specs.Rules.{ask};
 ghost use Rattle.rules.specs.Open.{below, cleared, edge_at, lowest, open_rule, standing, walk_all, weigh};
 ghost use Rattle.journal.specs.Configs.{ruled};

@@ -1,4 +1,4 @@
-// What a log is opened by, and what follows from it.
+//! What a log is opened by, and what follows from it.
 ghost use Rattle.std.specs.Prelude.{◌≡◌, ◌/◌, min, ◌&&◌, is_some, ◌==◌, nat_le};
 ghost use Rattle.std.specs.Option.{unwrap_or};
 ghost use Rattle.rules.specs.Open.{acknowledged, edge_at, needed, or_max, stands, weigh};
@@ -10,7 +10,7 @@ use crate::config::Config;
 use crate::fault::{Corrupt, Fault};
 use crate::log::Held;
 
-// From start on, up to a ceiling if there is one.
+/// From start on, up to a ceiling if there is one.
 #[derive(Clone, Copy)]
 pub struct Scope {
     pub config: Config,
@@ -26,7 +26,7 @@ impl Scope {
         self.ceiling.unwrap_or(u64::MAX)
     }
 
-    // The ceiling may not be below the start.
+    /// The ceiling may not be below the start.
     pub fn reach(self) -> Result<(), Fault>
         ensures { Reaches self.start self.ceiling result }
     {
@@ -36,7 +36,7 @@ impl Scope {
         }
     }
 
-    // The lowest blob that the ceiling sets aside.
+    /// The lowest blob that the ceiling sets aside.
     #[tactic(auto, using(crate::proofs::Starting::ceil))]
     pub fn edge(self) -> Option<u64>
         ensures { edge_of result ≡ edge_at (ruled self.config) self.start self.ceiling }
@@ -57,7 +57,7 @@ impl Scope {
         records.min(self.top().saturating_sub(first))
     }
 
-    // How many bytes of a suspect of so many are scanned.
+    /// How many bytes of a suspect of so many are scanned.
     pub fn limit_of(self, b: u64, len: u64) -> u64
         ensures { result ≡ limit_for (ruled self.config) self.start self.ceiling b len }
     {
@@ -68,21 +68,21 @@ impl Scope {
         len.min(self.config.round_up(bytes))
     }
 
-    // Under a ceiling, a scan that met its limit and holds the records that are needed.
+    /// Under a ceiling, a scan that met its limit and holds the records that are needed.
     pub fn holds(self, b: u64, scanned: u64, limit: u64) -> bool
         ensures { result ≡ (is_some self.ceiling && (scanned == limit && nat_le (needed (ruled self.config) self.start self.ceiling b) (scanned / self.config.size))) }
     {
         self.ceiling.is_some() && scanned == limit && self.needed(b) <= scanned / self.config.size
     }
 
-    // The acknowledged positions end here.
+    /// The acknowledged positions end here.
     pub fn floor(self, mark: Option<u64>) -> u64
         ensures { result ≡ min (unwrap_or mark 0) (or_max self.ceiling) }
     {
         mark.unwrap_or(0).min(self.top())
     }
 
-    // The bytes below the floor, in the floor's blob.
+    /// The bytes below the floor, in the floor's blob.
     pub fn acknowledged(self, floor: u64, b: u64) -> Result<u64, Fault>
         ensures { Owed (acknowledged (ruled self.config) self.start floor b) result }
     {
@@ -95,8 +95,8 @@ impl Scope {
             .ok_or(Fault::OffsetOverflow)
     }
 
-    // The watermark is weighed against the size that the walk found, and whether there are blobs beyond. The walk's answer is a pair,
-    // as in the Rust journal.
+    /// The watermark is weighed against the size that the walk found, and whether there are blobs beyond. The walk's answer is a pair,
+    /// as in the Rust journal.
     #[tactic(auto, using(crate::proofs::Starting::weigh_gap))]
     pub fn weigh(self, mark: Option<u64>, walked: (u64, bool)) -> Result<Held, Fault>
         ensures { Settles (weigh (ruled self.config) self.start self.ceiling (edge_at (ruled self.config) self.start self.ceiling) mark (stands walked.0 walked.1)) result }

@@ -1,4 +1,4 @@
-// A clear is staged, and then completed or left.
+//! A clear is staged, and then completed or left.
 ghost use Rattle.std.specs.Prelude.{◌≡◌};
 ghost use Rattle.journal.specs.Clears.{Staged, Completed};
 
@@ -10,7 +10,7 @@ use crate::log::{Held, Log, Lost, Stop, Trimmed};
 use std::marker::PhantomData;
 use store::store::Store;
 
-// Beside the store whose keys tell the target. It is not Drop: it is spent by `complete` or by `leave`.
+/// Beside the store whose keys tell the target. It is not Drop: it is spent by `complete` or by `leave`.
 pub struct StagedClear<K> {
     pub(crate) target: u64,
     pub(crate) config: Config,
@@ -18,7 +18,7 @@ pub struct StagedClear<K> {
 }
 
 impl<P, S: Store, K> Log<P, S, K> {
-    // The log ends here: what is left is the store, with the clear staged in its keys.
+    /// The log ends here: what is left is the store, with the clear staged in its keys.
     pub fn stage_clear(mut self, target: u64) -> Result<(S, StagedClear<K>), Stop<Log<P, S, K>, S>>
         ensures { Staged S.view self.config target (S.view self.store) self result }
     {
@@ -41,7 +41,7 @@ impl<P, S: Store, K> Log<P, S, K> {
 }
 
 impl<K> StagedClear<K> {
-    // Carries the clear out. A refusal hands the store back: so a match, and no `?`.
+    /// Carries the clear out. A refusal hands the store back: so a match, and no `?`.
     pub fn complete<S: Store>(self, mut store: S) -> Result<Trimmed<S, K>, Lost<S>>
         ensures { Completed S.view self (S.view store) result }
     {
@@ -65,7 +65,7 @@ impl<K> StagedClear<K> {
         }
     }
 
-    // The clear stays staged: the next open completes it.
+    /// The clear stays staged: the next open completes it.
     pub fn leave<S>(self, store: S) -> S
         ensures { result ≡ store }
     {

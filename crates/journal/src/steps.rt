@@ -1,4 +1,4 @@
-// The calls of a store, whose refusals name the step.
+//! The calls of a store, whose refusals name the step.
 ghost use Rattle.std.specs.Prelude.{◌≡◌, length, nat_lt};
 ghost use Rattle.store.specs.Ask.{while_up, above_of, below_of, length_of, scan_of, key_of, read_of};
 ghost use Rattle.store.specs.Disk.{at_or_above, Append, Open, Truncate, Sync, Remove, Put, DropKey, SyncKeys};
@@ -67,7 +67,7 @@ fn is_below(edge: Option<u64>, b: u64) -> bool
     edge.is_none_or(|edge| b < edge)
 }
 
-// The lowest number from b on, if it is below an edge.
+/// The lowest number from b on, if it is below an edge.
 pub fn next_below<S: Store>(store: &S, b: u64, edge: Option<u64>) -> Result<Option<u64>, StoreFault>
     ensures { Asked Listed (while_up (S.view store.now) (Ok (at_or_above b (below (edge_of edge) (S.view store.now).disk.blobs)))) result }
 {
@@ -81,7 +81,7 @@ pub fn look<S: Store>(store: &S, k: Key) -> Result<Option<u64>, StoreFault>
     named(Step::Looked(k), store.key(k))
 }
 
-// As many bytes as out has, from `at` on.
+/// As many bytes as out has, from `at` on.
 pub fn read<S: Store>(store: &S, b: u64, at: u64, out: &mut [u8]) -> Result<(), StoreFault>
     ensures { Read b (read_of (S.view store.now) b at (length out.old)) result out.new }
 {

@@ -1,4 +1,4 @@
-// The two highest blobs may end in records that were never whole: they are examined, and cut.
+//! The two highest blobs may end in records that were never whole: they are examined, and cut.
 ghost use Rattle.std.specs.Prelude.{◌≡◌, true, Some};
 ghost use Rattle.store.specs.Disk.{Blob, find};
 ghost use Rattle.rules.specs.Open.{edge_at};
@@ -42,7 +42,7 @@ fn examine_suspect<S: Store>(store: &mut S, scope: Scope, floor: u64, b: u64) ->
     Ok(steps::truncate(store, b, valid)?)
 }
 
-// The two highest blobs below the edge, the higher first.
+/// The two highest blobs below the edge, the higher first.
 pub fn examine_two<S: Store>(store: &mut S, scope: Scope, floor: u64) -> Result<(), Fault>
     requires { (S.view store.old).up ≡ true }
     ensures { ExaminedTwo (ruled scope.config) scope.start scope.ceiling floor (edge_at (ruled scope.config) scope.start scope.ceiling) (S.view store.old) result (S.view store.new) }

@@ -1,4 +1,4 @@
-// The calls of a trimmed log.
+//! The calls of a trimmed log.
 ghost use Rattle.std.specs.Prelude.{◌≡◌, ◌++◌, map, Err, ◌≢◌};
 ghost use Rattle.store.specs.Disk.{Sync, numbers};
 ghost use Rattle.rules.specs.Rules.{persist as persisting};
@@ -33,7 +33,7 @@ fn sync_and_persist<S: Store>(
 }
 
 impl<S: Store, K> Trimmed<S, K> {
-    // All its records are acknowledged.
+    /// All its records are acknowledged.
     pub fn sync(mut self) -> Result<Trimmed<S, K>, Lost<S>>
         ensures { Synced S.view self result }
     {
@@ -52,8 +52,8 @@ impl<S: Store, K> Trimmed<S, K> {
         }
     }
 
-    // Blobs below the one of a position go. Beside the log, whether any position went: an enum would only have to be
-    // taken apart for the log again.
+    /// Blobs below the one of a position go. Beside the log, whether any position went: an enum would only have to be
+    /// taken apart for the log again.
     pub fn prune(mut self, position: u64) -> Result<(Trimmed<S, K>, bool), Lost<S>>
         ensures { Pruned S.view self position result }
     {
@@ -78,7 +78,7 @@ impl<S: Store, K> Trimmed<S, K> {
 }
 
 impl<S: Store, K: Record> Trimmed<S, K> {
-    // One record after the last. A log that was configured for records of another size refuses it.
+    /// One record after the last. A log that was configured for records of another size refuses it.
     pub fn append(mut self, item: K) -> Result<Trimmed<S, K>, Stop<Trimmed<S, K>, S>>
         ensures sized { K.Record.size ≡ self.config.size → Appended S.view self (K.encode item) result }
         ensures other { (K.Record.size ≢ self.config.size) → result ≡ Err (Refused self BadConfig) }

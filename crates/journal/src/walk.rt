@@ -1,4 +1,4 @@
-// The walk over the blobs: how many records stand one after the other.
+//! The walk over the blobs: how many records stand one after the other.
 ghost use Rattle.std.specs.Prelude.{◌≡◌, ◌/◌, length, Some};
 ghost use Rattle.store.specs.Disk.{Blob, find};
 ghost use Rattle.rules.specs.Open.{below, edge_at, walk, walk_all};
@@ -11,7 +11,7 @@ use crate::scope::Scope;
 use crate::steps;
 use store::store::Store;
 
-// The size with a blob's records added: the blob is full and the walk goes on, or it is short and ends it.
+/// The size with a blob's records added: the blob is full and the walk goes on, or it is short and ends it.
 pub enum Filled {
     Full(u64),
     Short(u64),
@@ -62,7 +62,7 @@ fn walk_from<S: Store>(live: &Live<S>, scope: Scope, lowest: u64) -> Result<(u64
     Ok((size, gap))
 }
 
-// The walk's answer is a pair, as in the Rust journal.
+/// The walk's answer is a pair, as in the Rust journal.
 pub fn recover_by_walking_lengths<S: Store>(
     live: &Live<S>,
     scope: Scope,

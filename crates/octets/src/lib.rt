@@ -1,4 +1,4 @@
-// Bytes copied into and out of memory, and numbers as bytes, the highest first.
+//! Bytes copied into and out of memory, and numbers as bytes, the highest first.
 #![tactic(auto)]
 
 pub mod copies;

@@ -1,4 +1,4 @@
-// Numbers as bytes, the highest first.
+//! Numbers as bytes, the highest first.
 ghost use Rattle.std.specs.Prelude.{◌≡◌, ℕ, ◌+◌, ◌^◌, ◌<◌, ◌≤◌, length, take, drop};
 ghost use Rattle.octets.specs.BigEndian.{digits, number_of};
 ghost use Rattle.octets.specs.Written.{written};
@@ -6,7 +6,7 @@ ghost use Rattle.std.proofs.Common.{rules};
 
 use crate::copies::put_bytes;
 
-// An unsigned number that takes so many bytes, eight at most.
+/// An unsigned number that takes so many bytes, eight at most.
 pub trait Unsigned: Copy {
     ghost WIDTH: { ℕ };
 
@@ -24,6 +24,7 @@ pub trait Unsigned: Copy {
     ghost short: { WIDTH ≤ 8 };
 }
 
+// One `impl` for each width: the gate refuses those that a macro of the repository writes.
 impl Unsigned for u16 {
     ghost WIDTH = { 2 };
 
@@ -91,7 +92,7 @@ fn number(bytes: &[u8]) -> u64
     n
 }
 
-// Writes a number into out, from `at` on.
+/// Writes a number into out, from `at` on.
 pub fn put<N: Unsigned>(out: &mut [u8], at: usize, n: N)
     requires { at + N.WIDTH ≤ length out.old }
     ensures { out.new ≡ written out.old at (digits N.WIDTH (N.value n)) }
@@ -100,7 +101,7 @@ pub fn put<N: Unsigned>(out: &mut [u8], at: usize, n: N)
     put_bytes(out, at, &eight[8 - N::WIDTH..]);
 }
 
-// The number that the bytes from `at` on stand for.
+/// The number that the bytes from `at` on stand for.
 pub fn get<N: Unsigned>(bytes: &[u8], at: usize) -> N
     requires { at + N.WIDTH ≤ length bytes.now }
     ensures { N.value result ≡ number_of (take N.WIDTH (drop at bytes.now)) }

@@ -1,9 +1,9 @@
-// One reading by distance: at which station, what, and how good it is.
+//! One reading by distance: at which station, what, and how good it is.
 ghost use Rattle.std.specs.Prelude.{◌≡◌};
 ghost use Rattle.std.specs.Result.{result_ok};
 ghost use Rattle.record.specs.Grades.{grade_of, grade_number};
 
-// How good a reading is, by its number.
+/// How good a reading is, by its number.
 #[derive(Clone, Copy, PartialEq, Eq, Debug)]
 pub enum Grade {
     Zero = 0,
@@ -12,7 +12,7 @@ pub enum Grade {
     Three = 3,
 }
 
-// No grade has the number: it is above 3.
+/// No grade has the number: it is above 3.
 #[derive(Clone, Copy, PartialEq, Eq, Debug)]
 pub struct NoGrade;
 

@@ -1,4 +1,4 @@
-// Distance records are a record kind.
+//! Distance records are a record kind.
 ghost use Rattle.std.specs.Prelude.{Some};
 ghost use Rattle.record.specs.Distances.{encode_distance, decode_distance, FitsDistance};
 ghost use Rattle.record.specs.Texts.{distance_text};

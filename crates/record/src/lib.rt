@@ -1,4 +1,4 @@
-// What a record kind is, and the two kinds of an inspection run.
+//! What a record kind is, and the two kinds of an inspection run.
 #![tactic(auto)]
 
 pub mod distance;

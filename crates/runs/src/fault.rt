@@ -1,18 +1,18 @@
-// Why a run is not recorded or not read back.
+//! Why a run is not recorded or not read back.
 ghost use Rattle.std.specs.Prelude.{◌≡◌};
 ghost use Rattle.runs.specs.declared.fault.RunFault.TheVariants.{Store, NoMemory};
 
 use std::alloc::AllocFailed;
 use store::cause::Cause;
 
-// What stopped, an append or the sync after it, and why.
+/// What stopped, an append or the sync after it, and why.
 #[derive(Clone, Copy, PartialEq, Eq, Debug)]
 pub enum Halt {
     Append(Cause),
     Sync(Cause),
 }
 
-// Where a recording stopped: at which scan.
+/// Where a recording stopped: at which scan.
 #[derive(Clone, Copy, PartialEq, Eq, Debug)]
 pub struct Stopped {
     pub at: usize,

@@ -1,4 +1,4 @@
-// A run of scans: read from text, written to a store, read back, and compared.
+//! A run of scans: read from text, written to a store, read back, and compared.
 #![tactic(auto)]
 
 pub mod back;

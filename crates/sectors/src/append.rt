@@ -1,4 +1,4 @@
-// Bytes added at the end of a chain, or put in the place of its last ones.
+//! Bytes added at the end of a chain, or put in the place of its last ones.
 ghost use Rattle.std.specs.Prelude.{◌≡◌, ◌+◌, ◌-◌, ◌*◌, ◌<◌, ◌≤◌, ◌++◌, length, take};
 ghost use Rattle.sectors.specs.Sectors.{need, next_of, after, Apart};
 ghost use Rattle.sectors.specs.Chains.{list, joint, Both, Moved, Filled};
@@ -7,7 +7,7 @@ use crate::chain::Chain;
 use crate::grow::{keep, lengthen};
 use crate::payloads::write;
 
-// How many sectors so many bytes need.
+/// How many sectors so many bytes need.
 pub fn needed(n: usize) -> usize
     requires { n ≤ 60 * 65536 }
     ensures { result ≡ need n }
@@ -44,7 +44,7 @@ fn write_past(memory: &mut [u8], c: Chain, old: Chain, at: usize, bytes: &[u8])
     write_from(memory, c, old.count - 1, old.last, at, bytes);
 }
 
-// Adds bytes to a chain that holds `len` of them.
+/// Adds bytes to a chain that holds `len` of them.
 pub fn append(memory: &mut [u8], free: &mut Chain, chain: Chain, len: usize, bytes: &[u8]) -> Chain
     requires both { Both memory.old chain free.old }
     requires long { chain.count ≡ need len }
@@ -59,7 +59,7 @@ pub fn append(memory: &mut [u8], free: &mut Chain, chain: Chain, len: usize, byt
     longer
 }
 
-// The first `kept` bytes of a chain stay, and these follow them. Sectors come from the free chain or go back to it.
+/// The first `kept` bytes of a chain stay, and these follow them. Sectors come from the free chain or go back to it.
 pub fn recast(memory: &mut [u8], free: &mut Chain, chain: Chain, kept: usize, bytes: &[u8]) -> Chain
     requires both { Both memory.old chain free.old }
     requires within { need kept ≤ chain.count }

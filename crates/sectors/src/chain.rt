@@ -1,4 +1,4 @@
-// A chain of sectors: its first and its last, 0 where there is none, and how many there are.
+//! A chain of sectors: its first and its last, 0 where there is none, and how many there are.
 #[derive(Clone, Copy)]
 pub struct Chain {
     pub first: usize,

@@ -1,4 +1,4 @@
-// A chain that takes sectors from the free chain, or gives them back.
+//! A chain that takes sectors from the free chain, or gives them back.
 ghost use Rattle.std.specs.Prelude.{◌≡◌, ℕ, ◌+◌, ◌*◌, ◌≤◌, take};
 ghost use Rattle.sectors.specs.Sectors.{payload};
 ghost use Rattle.sectors.specs.Chains.{list, joint, Both, Moved};
@@ -9,7 +9,7 @@ use crate::link::{join, split};
 // A memory and its free chain are two fields of a store, lent side by side: a struct of two loans would be made and taken
 // apart at each call.
 
-// Takes k sectors from the front of the free chain.
+/// Takes k sectors from the front of the free chain.
 pub fn lengthen(memory: &mut [u8], free: &mut Chain, chain: Chain, k: usize) -> Chain
     requires { Both memory.old chain free.old × (k ≤ free.old.count) }
     ensures moved { Moved memory.old chain free.old memory.new result free.new }
@@ -22,7 +22,7 @@ pub fn lengthen(memory: &mut [u8], free: &mut Chain, chain: Chain, k: usize) -> 
     join(memory, chain, taken)
 }
 
-// Keeps the first k sectors of a chain, and gives the others back.
+/// Keeps the first k sectors of a chain, and gives the others back.
 pub fn keep(memory: &mut [u8], free: &mut Chain, chain: Chain, k: usize) -> Chain
     requires { Both memory.old chain free.old × (k ≤ chain.count) }
     ensures moved { Moved memory.old chain free.old memory.new result free.new }

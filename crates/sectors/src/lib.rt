@@ -1,4 +1,4 @@
-// Sectors of 64 bytes in chains: the memory of the chain store, without its blobs.
+//! Sectors of 64 bytes in chains: the memory of the chain store, without its blobs.
 #![tactic(auto)]
 
 pub mod append;

@@ -1,4 +1,4 @@
-// Chains joined and cut.
+//! Chains joined and cut.
 ghost use Rattle.std.specs.Prelude.{◌≡◌, ◌≤◌};
 ghost use Rattle.sectors.specs.Sectors.{next_of, sectors, after, Apart};
 ghost use Rattle.sectors.specs.Chains.{list, Both, Stands, Joined, Split};
@@ -6,7 +6,7 @@ ghost use Rattle.sectors.specs.Chains.{list, Both, Stands, Joined, Split};
 use crate::chain::Chain;
 use crate::sector::{parts, set_next};
 
-// The sector that k steps lead to.
+/// The sector that k steps lead to.
 pub fn walk(memory: &[u8], first: usize, k: usize) -> usize
     requires { Apart memory.now (sectors k (next_of memory.now) first) }
     ensures { result ≡ after k (next_of memory.now) first }
@@ -19,7 +19,7 @@ pub fn walk(memory: &[u8], first: usize, k: usize) -> usize
     s
 }
 
-// One chain after another.
+/// One chain after another.
 pub fn join(memory: &mut [u8], a: Chain, b: Chain) -> Chain
     requires { Both memory.old a b }
     ensures { Joined memory.old a b memory.new result }
@@ -38,7 +38,7 @@ pub fn join(memory: &mut [u8], a: Chain, b: Chain) -> Chain
     }
 }
 
-// A chain cut after its first k sectors.
+/// A chain cut after its first k sectors.
 pub fn split(memory: &mut [u8], c: Chain, k: usize) -> (Chain, Chain)
     requires { Stands memory.old c × Apart memory.old (list memory.old c) × (k ≤ c.count) }
     ensures { Split memory.old c k memory.new result.0 result.1 }

@@ -1,11 +1,11 @@
-// One sector of the memory.
+//! One sector of the memory.
 ghost use Rattle.std.specs.Prelude.{◌≡◌, ◌+◌, ◌*◌, ◌^◌, ◌<◌, ◌≤◌, length, take, drop};
 ghost use Rattle.sectors.specs.Sectors.{next_of, payload, Linked, Stored};
 
 use octets::copies::put_bytes;
 use octets::numbers::put;
 
-// The next number of a sector, and its payload.
+/// The next number of a sector, and its payload.
 pub fn parts(memory: &[u8], s: usize) -> (usize, &[u8])
     requires { 64 * s + 64 ≤ length memory.now }
     ensures next { result.0 ≡ next_of memory.now s }
@@ -28,7 +28,7 @@ pub fn set_next(memory: &mut [u8], s: usize, n: usize)
     put(memory, 64 * s, n as u32);
 }
 
-// Copies bytes out of a sector's payload, and says which sector is next.
+/// Copies bytes out of a sector's payload, and says which sector is next.
 pub fn copy_out(memory: &[u8], s: usize, from: usize, out: &mut [u8]) -> usize
     requires { (64 * s + 64 ≤ length memory.now) × (from + length out.old ≤ 60) }
     ensures next { result ≡ next_of memory.now s }
@@ -40,7 +40,7 @@ pub fn copy_out(memory: &[u8], s: usize, from: usize, out: &mut [u8]) -> usize
     next
 }
 
-// Copies bytes into a sector's payload, and says which sector is next.
+/// Copies bytes into a sector's payload, and says which sector is next.
 pub fn copy_in(memory: &mut [u8], s: usize, from: usize, bytes: &[u8]) -> usize
     requires { (64 * s + 64 ≤ length memory.old) × (from + length bytes.now ≤ 60) }
     ensures next { result ≡ next_of memory.old s }

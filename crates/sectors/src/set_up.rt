@@ -1,4 +1,4 @@
-// A memory whose sectors are all free.
+//! A memory whose sectors are all free.
 ghost use Rattle.std.specs.Prelude.{◌≡◌, ℕ, ◌-◌, ◌*◌, ◌≤◌, length};
 ghost use Rattle.store.specs.Occurs.{occurs};
 ghost use Rattle.sectors.specs.Sectors.{once};
@@ -7,7 +7,7 @@ ghost use Rattle.sectors.specs.Chains.{list, Stands, Relinked};
 use crate::chain::Chain;
 use crate::sector::set_next;
 
-// One chain of the sectors 1 to n − 1.
+/// One chain of the sectors 1 to n − 1.
 pub fn link_all(memory: &mut [u8], n: usize) -> Chain
     requires { (64 * n ≤ length memory.old) × (n ≤ 65536) }
     ensures stands { Stands memory.new result }

@@ -1,11 +1,11 @@
 -- The laws of the parts.
-use Rattle.std.specs.Prelude.{◌≡◌, ℕ, suc, ◌+◌, ◌*◌, ◌<◌, ◌≤◌, Bool, true, false, List, [], ◌∷◌, map, length, Some, None, vec_items, vec_len, Option, ◌≢◌, slice_index, slice_index_or, refl}
+use Rattle.std.specs.Prelude.{◌≡◌, ℕ, suc, ◌+◌, ◌*◌, ◌<◌, ◌≤◌, Bool, true, false, List, [], ◌∷◌, map, length, take, drop, Some, None, vec_items, vec_len, Option, ◌≢◌, slice_index, slice_index_or, refl}
 use Rattle.std.proofs.Common.{arith, sym, ap, ◌∙◌, inl, inr, eqb, length-take}
 use Rattle.std.proofs.lemmas.List.{get_or-map, length-map}
 use Rattle.std.proofs.lemmas.Bool.{cases_order}
 use Rattle.store.specs.Built.{bytes_there}
 use Rattle.store.specs.Disk.{Blob, find}
-use Rattle.octets.proofs.Writes.{length_part}
+use Rattle.octets.proofs.Writes.{length_part, bytes_of}
 use Rattle.catalog.specs.declared.row.Row.{Row}
 use Rattle.catalog.specs.declared.table.Table.{Table}
 use Rattle.catalog.specs.Rows.{none, places_of}
@@ -18,6 +18,10 @@ use Rattle.slots.specs.declared.parts.Parts.{Parts}
 use Rattle.slots.specs.Layout.{layout, content_of, room_by, Holds}
 use Rattle.slots.specs.Shares.{part_below, part_twice}
 use Rattle.slots.specs.Memory.{part_in}
+
+-- bytes of a blob are bytes of the memory
+pub part_bytes : (m : Parts) (p len at n : ℕ) → at + n ≤ len → take n (drop at (content_of m p len)) ≡ take n (drop (p * m.each + at) (vec_items m.memory))
+part_bytes m p len at n l = bytes_of (vec_items m.memory) (p * m.each) len at n l
 
 module _ (m : Parts) (t : Table) (h : Holds m t) where
   part_at : (i : ℕ) → i < t.count → slice_index (places_of t.rows) i ≡ (row_at t i).place

@@ -1,4 +1,4 @@
-// How blobs stand in the parts.
+//! How blobs stand in the parts.
 ghost use Rattle.std.specs.Prelude.{◌≡◌, ◌+◌, ◌*◌, ◌<◌, ◌≤◌, vec_len};
 ghost use Rattle.catalog.specs.Blobs.{row_at};
 ghost use Rattle.catalog.specs.Rows.{places_of};

@@ -1,4 +1,4 @@
-// A store of 64 equal parts of one memory.
+//! A store of 64 equal parts of one memory.
 #![tactic(auto)]
 
 pub mod layout;

@@ -1,4 +1,4 @@
-// A memory or a configuration that is refused.
+//! A memory or a configuration that is refused.
 ghost use Rattle.std.specs.Prelude.{◌≡◌};
 
 #[derive(Clone, Copy, PartialEq, Eq, Debug)]

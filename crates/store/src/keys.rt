@@ -1,9 +1,9 @@
-// The three keys, each an optional number.
+//! The three keys, each an optional number.
 ghost use Rattle.std.specs.Prelude.{◌≡◌};
 ghost use Rattle.store.specs.Ask.{key_at};
 ghost use Rattle.store.specs.Disk.{keyed, no_keys};
 
-// The boundary hint (key 1), the clear target (key 2) and the watermark (key 3).
+/// The boundary hint (key 1), the clear target (key 2) and the watermark (key 3).
 #[derive(Clone, Copy, PartialEq, Eq, Debug)]
 pub enum Key {
     Hint,

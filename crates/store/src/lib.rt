@@ -1,4 +1,4 @@
-// What a store is: its causes, its keys, and the trait with a contract for each call.
+//! What a store is: its causes, its keys, and the trait with a contract for each call.
 #![tactic(auto)]
 
 pub mod cause;

@@ -1,4 +1,4 @@
-// The store: questions, which change nothing, writing calls, and restart.
+//! The store: questions, which change nothing, writing calls, and restart.
 ghost use Rattle.std.specs.Prelude.{◌≡◌, length};
 ghost use Rattle.store.specs.Ask.{CopiedOut};
 ghost use Rattle.store.specs.Ask.{above_of, below_of, length_of, room_of, scan_of, key_of, read_of};
@@ -13,11 +13,11 @@ use crate::restart::Restart;
 pub trait Store {
     ghost view: { Self → View };
 
-    // The lowest number at or above b.
+    /// The lowest number at or above b.
     fn at_or_above(&self, b: u64) -> Result<Option<u64>, Cause>
         ensures { result ≡ above_of (view self.now) b };
 
-    // The highest number at or below b.
+    /// The highest number at or below b.
     fn at_or_below(&self, b: u64) -> Result<Option<u64>, Cause>
         ensures { result ≡ below_of (view self.now) b };
 
@@ -30,11 +30,11 @@ pub trait Store {
     fn key(&self, k: Key) -> Result<Option<u64>, Cause>
         ensures { result ≡ key_of (view self.now) k };
 
-    // The smaller of the sound length and a limit.
+    /// The smaller of the sound length and a limit.
     fn scan(&self, b: u64, limit: u64) -> Result<u64, Cause>
         ensures { result ≡ scan_of (view self.now) b limit };
 
-    // As many bytes as out has, from `at` on.
+    /// As many bytes as out has, from `at` on.
     fn read(&self, b: u64, at: u64, out: &mut [u8]) -> Result<(), Cause>
         ensures { CopiedOut (read_of (view self.now) b at (length out.old)) out.old result out.new };
 

@@ -1,4 +1,4 @@
-// The chain store, on examples of its own.
+//! The chain store, on examples of its own.
 use chains::chains::Chains;
 use std::test::Fail;
 use store::restart::{Past, Restart};

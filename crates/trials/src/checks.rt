@@ -1,4 +1,4 @@
-// Each call and each refusal: one text for every make.
+//! Each call and each refusal: one text for every make.
 use crate::differs::check;
 use chains::chains::Chains;
 use slots::parts::Slots;

@@ -1,4 +1,4 @@
-// The power goes at every writing call of a script.
+//! The power goes at every writing call of a script.
 use crate::differs::check;
 use chains::chains::Chains;
 use slots::parts::Slots;

@@ -1,4 +1,4 @@
-// How a trial that runs over any make of store fails.
+//! How a trial that runs over any make of store fails.
 ghost use Rattle.std.specs.Prelude.{OnOk, IsTrue};
 
 use std::test::Fail;

@@ -1,4 +1,4 @@
-// The stores, run on examples.
+//! The stores, run on examples.
 #![tactic(auto)]
 
 #[cfg(test)]
