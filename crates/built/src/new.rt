@@ -10,7 +10,7 @@ use catalog::catalog::Catalog;
 use store::config::BadConfig;
 
 impl<M: Medium> Built<M> {
-    /// Tells whether a memory is fit.
+    /// Tells whether a memory is fit. It is lent as the Vec that a store will own.
     pub fn check(memory: &Vec<u8>) -> Result<(), BadConfig>
         ensures { MatchResult result (λ _. M.layout.Fit memory.now) (λ _. M.layout.Fit memory.now → ⊥) }
     {

@@ -1,4 +1,5 @@
-//! A chain of sectors: its first and its last, 0 where there is none, and how many there are.
+//! A chain of sectors: its first and its last, 0 where there is none, and how many there are. No Option, since the memory itself
+//! ends a chain by 0.
 #[derive(Clone, Copy)]
 pub struct Chain {
     pub first: usize,

@@ -1,4 +1,4 @@
-//! One sector of the memory.
+//! One sector of the memory. That it lies there is asked at each call: it is true of a number only in the memory of the moment.
 ghost use Rattle.std.specs.Prelude.{◌≡◌, ◌+◌, ◌*◌, ◌^◌, ◌<◌, ◌≤◌, length, take, drop};
 ghost use Rattle.sectors.specs.Sectors.{next_of, payload, Linked, Stored};
 
