@@ -1,8 +1,6 @@
 //! The steps that calls share.
 ghost use Rattle.std.specs.Prelude.{◌≡◌, ◌+◌, ◌^◌, ◌<◌, ◌≤◌, [], ◌++◌, length, take};
-ghost use Rattle.store.specs.Disk.{Blob};
 ghost use Rattle.catalog.specs.Rows.{Ordered};
-ghost use Rattle.catalog.specs.Found.{FoundOr};
 ghost use Rattle.built.specs.Seen.{row_at, blob_in};
 ghost use Rattle.built.specs.Calls.{Begun, MadeRow};
 ghost use Rattle.built.specs.Rewritten.{Rewritten};

@@ -1,8 +1,5 @@
 //! The sectors hold the bytes of a built store.
-ghost use Rattle.std.specs.Prelude.{◌≡◌, ℕ, ◌-◌, ◌*◌, ◌/◌, ◌≤◌, vec_len};
-ghost use Rattle.store.specs.Occurs.{occurs};
-ghost use Rattle.sectors.specs.Chains.{list, Stands, Relinked};
-ghost use Rattle.sectors.specs.Sectors.{once};
+ghost use Rattle.std.specs.Prelude.{◌≡◌};
 ghost use Rattle.chains.specs.Cover.{usable};
 ghost use Rattle.chains.specs.Layout.{in_sectors};
 ghost use Rattle.chains.specs.Lawful.{lawful};
