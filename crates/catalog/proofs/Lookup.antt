@@ -8,13 +8,13 @@ use Rattle.std.specs.Bool.{then_some}
 use Rattle.store.specs.Disk.{Blob, blank, find, numbers, at_or_above, at_or_below}
 use Rattle.store.specs.Laws.{Rising}
 use Rattle.store.specs.Place.{Sought}
-use Rattle.store.proofs.Places.{find_here, find_missing, length_numbers, above_here, above_none, below_none, below_here}
+use Rattle.store.proofs.Places.{find_here, find_missing, length_numbers, above_here, above_none, below_here}
 use Rattle.catalog.specs.declared.row.Row.{Row}
 use Rattle.catalog.specs.declared.table.Table.{Table}
 use Rattle.catalog.specs.Rows.{none, numbers_of, Ordered}
 use Rattle.catalog.specs.Blobs.{live, row_at, entry_by, blobs_by}
 use Rattle.catalog.specs.Found.{Here, FoundAt}
-use Rattle.catalog.proofs.Live.{number_live}
+use Rattle.catalog.proofs.Live.{number_live, sought}
 
 numbers_map : (g : Row → Blob) (rs : List Row) → numbers (map (entry_by g) rs) ≡ numbers_of rs
 numbers_map g [] = refl
@@ -29,6 +29,20 @@ module _ (t : Table) where
 
   pub row_live : (i : ℕ) → i < t.count → get_or (live t) i none ≡ row_at t i
   row_live i l = get_or-take t.count t.rows i none l
+
+  -- what `get` has read of the rows in use
+  pub row_got : (rs : List Row) (i : ℕ) (r : Row) → rs ≡ live t → (i < length rs) × ((d : Row) → r ≡ get_or rs i d) → (i < t.count) × (r ≡ row_at t i)
+  row_got rs i r e a =
+      let l : i < t.count = omega (arith, a.0, ap length e, length_rows) in
+      (l, a.1 none ∙ ap (λ qs. get_or qs i none) e ∙ row_live i l)
+
+  -- what a search of the rows in use has shown
+  pub sought_live : (b i : ℕ) → i ≤ t.count → ((k : ℕ) → k < i → (get_or (live t) k none).number < b) → (i < t.count → b ≤ (get_or (live t) i none).number)
+      → Sought b (numbers_of (live t)) i
+  sought_live b i l f a =
+      sought t.rows t.count many b i l
+      (λ k m. omega (arith, f k m, ap (λ (r : Row). r.number) (row_live k (omega arith))))
+      (λ m. omega (arith, a m, ap (λ (r : Row). r.number) (row_live i m)))
 
   -- by rising number
   pub rows_rise : IsNonDecreasingBy (λ (r : Row). r.number) (live t)
@@ -83,6 +97,16 @@ module _ (g : Row → Blob) (t : Table) where
     pub above_past : t.count ≤ i → None ≡ at_or_above b (blobs_by g t)
     above_past l = sym (above_none b (blobs_by g t) (λ k m. sought_blobs.1 k (omega (arith, length_blobs))))
 
+    pub below_same : i < t.count → (row_at t i).number ≡ b → Some b ≡ at_or_below b (blobs_by g t)
+    below_same l e =
+        let n = length_numbers (blobs_by g t) in
+        let h : get_or (numbers (blobs_by g t)) i 0 ≡ b = number_at i l ∙ e in
+        sym
+        (below_here b None (blobs_by g t) i (omega (arith, length_blobs))
+        (λ k m. elim (cases_lt k i) [ inl q ↦ omega (arith, sought_blobs.1 k q) | inr q ↦ let z : k ≡ i = omega arith in omega (arith, ap (λ j. get_or (numbers (blobs_by g t)) j 0) z) ])
+        (λ m. omega (arith, rising_blobs i (suc i) (omega arith) (omega arith)))
+        ∙ ap Some h)
+
   -- b is not there
   module _ (b i : ℕ) (f : Sought b (numbers_of (live t)) i) (e : i < t.count → (row_at t i).number ≡ b → ⊥) where
     pub above_b : i < length (blobs_by g t) → b < get_or (numbers (blobs_by g t)) i 0
@@ -97,17 +121,14 @@ module _ (g : Row → Blob) (t : Table) where
     pub missing : find (blobs_by g t) b ≡ None
     missing = find_missing b (blobs_by g t) i rising_blobs (sought_blobs b i f).1 above_b
 
-  -- b is below every number, or i is the last place whose number is not above it
-  pub below_first : (b : ℕ) → (0 < t.count → b < (row_at t 0).number) → None ≡ at_or_below b (blobs_by g t)
-  below_first b a = sym (below_none b None (blobs_by g t) (λ l. let m : 0 < t.count = omega (arith, length_blobs) in omega (arith, a m, number_at 0 m)))
-
-  pub below_last : (b i : ℕ) → i < t.count → ((k : ℕ) → k < suc i → (row_at t k).number ≤ b) → (suc i < t.count → b < (row_at t (suc i)).number)
-      → Some (row_at t i).number ≡ at_or_below b (blobs_by g t)
-  below_last b i l h a =
-      sym
-      (below_here b None (blobs_by g t) i (omega (arith, length_blobs)) (λ k m. omega (arith, h k m, number_at k (omega arith)))
-      (λ m. let q : suc i < t.count = omega (arith, length_blobs) in omega (arith, a q, number_at (suc i) q))
-      ∙ ap Some (number_at i l))
+    pub below_prior : (j : ℕ) → suc j ≡ i → Some (row_at t j).number ≡ at_or_below b (blobs_by g t)
+    below_prior j z =
+        let s = sought_blobs b i f in
+        let n = length_numbers (blobs_by g t) in
+        let l : j < t.count = omega (arith, s.0, length_blobs) in
+        sym
+        (below_here b None (blobs_by g t) j (omega (arith, length_blobs)) (λ k m. omega (arith, s.1 k (omega arith))) (rw z above_b)
+        ∙ ap Some (number_at j l))
 
 pub here : (t : Table) (b i : ℕ) → Sought b (numbers_of (live t)) i → i < t.count → (row_at t i).number ≡ b → Here b t i
 here t b i f l e =

@@ -18,12 +18,17 @@ impl Table {
         &self.rows[..self.count]
     }
 
-    /// The first place whose number is not below b.
+    /// The first place whose number is not below b. The first 16 rows are looked at one by one, since few blobs is the usual case; the others are halved.
     pub fn seek(&self, b: u64) -> usize
         ensures within { result ≤ self.now.count }
         ensures place { Sought b (numbers_of (live self.now)) result }
     {
-        self.live().partition_point(|row| row.number < b)
+        let rows = self.live();
+        let near = rows.len().min(16);
+        match rows[..near].iter().position(|row| row.number >= b) {
+            Some(i) => i,
+            None => near + rows[near..].partition_point(|row| row.number < b),
+        }
     }
 
     /// The place of the blob with this number.
@@ -43,12 +48,17 @@ impl Table {
         Some(row.number)
     }
 
-    /// The highest number at or below b: that of the last row which is not above b.
+    /// The highest number at or below b: b itself, or the number before its place.
     pub fn below(&self, b: u64) -> Option<u64>
         ensures { (g : ARow → Blob) → result ≡ at_or_below b (blobs_by g self.now) }
     {
-        let past = self.live().partition_point(|row| row.number <= b);
-        let last = past.checked_sub(1)?;
-        Some(self.rows[last].number)
+        let i = self.seek(b);
+        match self.live().get(i) {
+            Some(row) if row.number == b => Some(b),
+            _ => {
+                let last = i.checked_sub(1)?;
+                Some(self.rows[last].number)
+            }
+        }
     }
 }

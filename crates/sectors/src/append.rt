@@ -69,5 +69,8 @@ pub fn recast(memory: &mut [u8], free: &mut Chain, chain: Chain, kept: usize, by
     ensures bytes { take (kept + length bytes.now) (joint memory.new result) ≡ take kept (joint memory.old chain) ++ bytes.now }
 {
     let front = keep(memory, free, chain, needed(kept));
+    if bytes.is_empty() {
+        return front;
+    }
     append(memory, free, front, kept, bytes)
 }

@@ -1,35 +1,26 @@
-use Rattle.std.proofs.Common.{suc, leb, ap, ◌∙◌, arith, rules}
-use Rattle.std.proofs.lemmas.Bool.{leb-true, leb-false}
-use Rattle.std.proofs.lemmas.List.Sorted.{IsPartitionPoint-from_clause, IsPartitionedBy-leb}
+use Rattle.std.proofs.Common.{◌≡◌, ◌<◌, length, ap, ◌∙◌, arith}
 use Rattle.catalog.specs.declared.row.Row.{Row}
-use Rattle.catalog.specs.Rows.{none}
-use Rattle.catalog.specs.Blobs.{live}
-use Rattle.catalog.proofs.Lookup.{length_rows, row_live, rows_rise, below_first, below_last}
+use Rattle.catalog.specs.Blobs.{row_at}
+use Rattle.catalog.proofs.Lookup.{length_rows, row_got, below_same, below_prior}
+use Rattle.catalog.proofs.table.Table.below.Goals.{in_default-via-in-Some+else-row-b, in_default-via-in_default}
 use Rattle.catalog.proofs.table.Table.below.Goals as goal
 
-pub returns-in_err-last : goal.returns-in_err-last
-returns-in_err-last c g =
+pub returns-in-Some : goal.returns-in-Some
+returns-in-Some c g =
     let t = c.args.self.now in
-    let b = c.args.b in
-    let i = c.partition_point-past.result in
-    let p = rw c.live.ensures at c.partition_point-past.ensures.partitioned in
-    let point = IsPartitionPoint-from_clause (λ (r : Row). leb r.number b) (live t) i p (IsPartitionedBy-leb (λ (r : Row). r.number) (live t) b (rows_rise t)) (λ a r q k. search rules) in
-    let n = length_rows t in
-    let z = c.in_err-last.ensures in
-    c.from_residual.ensures
-    ∙ below_first g t b
-    (λ l. let e = row_live t 0 l in omega (arith, ap (λ (r : Row). r.number) e, leb-false _ b (point.1 0 none (omega arith) (omega arith))))
+    let i = c.seek-i.result in
+    let a = row_got t c.live.result.now i c.in-Some.row.now c.live.ensures c.in-Some.ensures.lookup.3 in
+    below_same g t c.args.b i c.seek-i.ensures.place a.0 (omega (arith, ap (λ (r : Row). r.number) a.1, c.if-row-b.true))
 
-pub returns : goal.returns
-returns c g =
+pub returns-in_ok-last-in_default : goal.returns-in_ok-last-in_default
+returns-in_ok-last-in_default c g =
     let t = c.args.self.now in
-    let b = c.args.b in
-    let i = c.partition_point-past.result in
-    let p = rw c.live.ensures at c.partition_point-past.ensures.partitioned in
-    let point = IsPartitionPoint-from_clause (λ (r : Row). leb r.number b) (live t) i p (IsPartitionedBy-leb (λ (r : Row). r.number) (live t) b (rows_rise t)) (λ a r q k. search rules) in
-    let n = length_rows t in
-    let l = rw c.live.ensures at c.partition_point-past.ensures.bound in
-    let z = c.in_ok-last.ensures in
-    below_last g t b c.in_ok-last.last (omega arith)
-    (λ k m. let e = row_live t k (omega arith) in omega (arith, ap (λ (r : Row). r.number) e, leb-true _ b (point.0 k none (omega arith) (omega arith))))
-    (λ m. let e = row_live t (suc c.in_ok-last.last) m in omega (arith, ap (λ (r : Row). r.number) e, leb-false _ b (point.1 (suc c.in_ok-last.last) none (omega arith) (omega arith))))
+    let i = c.seek-i.result in
+    let absent : i < t.count → (row_at t i).number ≡ c.args.b → ⊥ = λ l e. elim c.in_default.branch [
+      | in_default-via-in-Some+else-row-b w ↦
+          let a = row_got t c.live.result.now i w.in-Some.row.now c.live.ensures w.in-Some.ensures.lookup.3 in
+          w.if-row-b.false (ap (λ (r : Row). r.number) a.1 ∙ e)
+      | in_default-via-in_default w ↦ omega (arith, w.in_default.ensures.lookup.3, ap length c.live.ensures, length_rows t)
+    ] in
+    let z = c.in_ok-last-in_default.ensures in
+    below_prior g t c.args.b i c.seek-i.ensures.place absent c.in_ok-last-in_default.last (omega (arith, z.0, z.1))

@@ -1,8 +1,6 @@
-use Rattle.std.proofs.Common.{◌≡◌, ◌<◌, length, get_or, eqb, ap, sym, ◌∙◌, arith}
+use Rattle.std.proofs.Common.{length, eqb, ap, sym, arith}
 use Rattle.catalog.specs.declared.row.Row.{Row}
-use Rattle.catalog.specs.Rows.{none}
-use Rattle.catalog.specs.Blobs.{row_at}
-use Rattle.catalog.proofs.Lookup.{length_rows, row_live, found_by, found_past}
+use Rattle.catalog.proofs.Lookup.{length_rows, row_got, found_by, found_past}
 use Rattle.catalog.proofs.table.Table.find.Goals as goal
 
 pub returns-in_err-row : goal.returns-in_err-row
@@ -15,7 +13,5 @@ pub returns : goal.returns
 returns c =
     let t = c.args.self.now in
     let i = c.seek-i.result in
-    let a = c.in_ok-row.ensures.lookup.3 in
-    let l : i < t.count = omega (arith, a.0, ap length c.live.ensures, length_rows t) in
-    let e : c.in_ok-row.row.now ≡ row_at t i = a.1 none ∙ ap (λ rs. get_or rs i none) c.live.ensures ∙ row_live t i l in
-    rw c.then_some.ensures (found_by t c.args.b i _ c.seek-i.ensures.place l (ap (λ (r : Row). eqb r.number c.args.b) (sym e)))
+    let a = row_got t c.live.result.now i c.in_ok-row.row.now c.live.ensures c.in_ok-row.ensures.lookup.3 in
+    rw c.then_some.ensures (found_by t c.args.b i _ c.seek-i.ensures.place a.0 (ap (λ (r : Row). eqb r.number c.args.b) (sym a.1)))
